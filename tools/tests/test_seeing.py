@@ -22,7 +22,7 @@ from zaklimot_tools.trace.rebuilding import rebuilt_as_told
 from zaklimot_tools.trace.step import TraceStep
 from zaklimot_tools.trace.told import Told, state_asked
 from zaklimot_tools.trace.trace import Call
-from zaklimot_tools.trace.walking import Question, Walk
+from zaklimot_tools.trace.walking import Item, Question, Walk
 
 from .tools import (
     EXAMPLES,
@@ -196,7 +196,7 @@ class Walked(Folder):
         self.assert_alike(told, self.told(*rebuilt_as_told(told)))
 
     def test_a_walk_of_several_scripts_answers_as_one(self) -> None:
-        items: list[Any] = [call(0x0003, 0, 0, 0)]
+        items: list[Item[int]] = [call(0x0003, 0, 0, 0)]
         for number in range(60):
             items.append(call(0x0E41 + number % 26, 7, 0, 0))
             items.append(TraceStep(5, 0xB8800 + number, number))
@@ -227,8 +227,8 @@ class Walked(Folder):
             [(0x0003, 0, 0, 0), (0x1112, 0, 0, 0), (0x0200, 0, 0, 0x3100), (0x0942, 0x17, 5, 0)],
             [(0x0007, 0, 0, 0), (0x1111, 0, 0, 0), (0x0942, 0x17, 5, 0)],
         ):
-            asked: list[Any] = [call(*one) for one in calls]
-            asked += [Question(one, None) for one in state_asked()]
+            asked: list[Item[str]] = [call(*one) for one in calls]
+            asked += [Question(one, "state") for one in state_asked()]
             asked.append(Question(Step("show cells", ()), "cells"))
             told = Told()
             shown: list[str] = []

@@ -12,13 +12,12 @@ from typing import Any, Callable, IO, Iterator, NamedTuple, Optional, Sequence
 
 from .files import files, files_of_run
 from .progress import Progress
+from .signals import ending_signals
 from .trouble import TROUBLE, Trouble
 from .version import version
 
 # What a shell says of programs that a closed pipe, the user, or the system has ended.
 PIPE_CLOSED, INTERRUPTED, SIGNALLED = 141, 130, 128
-# The signals that end a tool. The user's own, by Ctrl-C, raises what Python raises for it.
-ENDING = ("SIGINT", "SIGTERM", "SIGHUP")
 NO_MEMORY = "there is not enough memory for this"
 # How the exit status reads of a tool that tells differences, and of one that does a job or doesn't.
 DIFFERS = "Exit status: 0 done, and nothing differs; 1 something differs; 2 the work can't be done."
@@ -170,14 +169,14 @@ def _ending_at_signals() -> Iterator[None]:
     The first of them raises. Those that follow change nothing: the undoing goes on to its end.
     """
     # A caller such as nohup has some of them ignored.
-    known = [getattr(signal, name) for name in ENDING if hasattr(signal, name)]
     usual = (signal.SIG_DFL, signal.default_int_handler)
-    before = {number: signal.getsignal(number) for number in known}
+    before = {number: signal.getsignal(number) for number in ending_signals()}
     heeded = {number: handler for number, handler in before.items() if handler in usual}
 
     came: list[int] = []
 
     def end(number: int, _: object) -> None:
+        # The user's own, by Ctrl-C, raises what Python raises for it.
         came.append(number)
         for other in heeded:
             signal.signal(other, signal.SIG_IGN)

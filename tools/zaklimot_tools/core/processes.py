@@ -31,6 +31,7 @@ from typing import (
     cast,
 )
 
+from .signals import ending_signals
 from .trouble import Trouble, Wrong
 from .words import MEBIBYTE
 
@@ -122,13 +123,10 @@ def _signals_held() -> Iterator[None]:
     came: list[int] = []
     held: dict[int, Any] = {}
     if threading.current_thread() is threading.main_thread():
-        known = [
-            getattr(signal, name)
-            for name in ("SIGINT", "SIGTERM", "SIGHUP")
-            if hasattr(signal, name)
-        ]
         held = {
-            number: handler for number in known if callable(handler := signal.getsignal(number))
+            number: handler
+            for number in ending_signals()
+            if callable(handler := signal.getsignal(number))
         }
     for number in held:
         signal.signal(number, lambda number, _: came.append(number))

@@ -3,10 +3,15 @@ them."""
 
 from __future__ import annotations
 
-from typing import Callable, Mapping, Optional
+from typing import Callable, Mapping, NamedTuple, Optional
+
+from .raster import character_dots, frame_lines, line_characters
+from .wordings import WORDINGS
 
 
 ATTRIBUTE, MISC, SEQUENCER, GRAPHICS = 0x3C0, 0x3C2, 0x3C4, 0x3CE
+# Where what was written to two of these is read.
+ATTRIBUTE_READ, MISC_READ = 0x3C1, 0x3CC
 COLOUR, MONOCHROME = 0x3D4, 0x3B4
 # The DAC takes any byte. What it keeps is no part of this model.
 DAC_PORTS = MASK, DAC_READ, DAC_WRITE, DAC_DATA = (0x3C6, 0x3C7, 0x3C8, 0x3C9)
@@ -14,8 +19,6 @@ DAC_PORTS = MASK, DAC_READ, DAC_WRITE, DAC_DATA = (0x3C6, 0x3C7, 0x3C8, 0x3C9)
 STATUS = 6
 # Bits of miscellaneous output.
 IS_COLOUR, ENABLE_MEMORY, MISC_KEPT = 0x01, 0x02, 0xEF
-# First address and bytes of the window, by the memory map, which bits 3 and 2 of a register tell.
-WINDOWS = ((0xA0000, 0x20000), (0xA0000, 0x10000), (0xB0000, 0x8000), (0xB8000, 0x8000))
 MAP = 0x06
 # The index of the attribute controller: the palette address source; and how many registers are the
 # palette.
@@ -23,8 +26,20 @@ SOURCE, PALETTE = 0x20, 0x10
 # The end of vertical retrace, whose bit protects registers 0 to 7; and what is never protected of
 # overflow.
 RETRACE_END, PROTECT, COMPARE_8 = 0x11, 0x80, 0x10
-# The registers that shape a frame: clocking mode; horizontal total, vertical total and overflow.
-CLOCKING, TOTAL, LINES, OVERFLOW = 0x01, 0x00, 0x06, 0x07
+
+
+class MemoryWindow(NamedTuple):
+    """The addresses at which memory answers: the first of them, and how many there are."""
+
+    first: int
+    size: int
+
+
+# The windows by the memory map, which bits 3 and 2 of a register tell.
+WINDOWS = tuple(
+    MemoryWindow(int(first, 16), int(last, 16) + 1 - int(first, 16))
+    for first, last in WORDINGS["ports"]["windows"]
+)
 # The lines of a frame, the characters of a line, and the dots of a character.
 Shape = tuple[int, int, int]
 
@@ -144,9 +159,7 @@ class Banks:
     def shape(self) -> Shape:
         """The shape of the frame."""
         crtc = self.crtc.registers
-        overflow = crtc[OVERFLOW]
-        lines = crtc[LINES] + ((overflow & 1) << 8) + ((overflow >> 5 & 1) << 9) + 2
-        return lines, crtc[TOTAL] + 5, 8 if self.seq.registers[CLOCKING] & 1 else 9
+        return frame_lines(crtc), line_characters(crtc), character_dots(self.seq.registers)
 
     def bank(self, port: int) -> Optional[Bank]:
         """The registers whose index a port is."""

@@ -13,21 +13,20 @@ from zaklimot.format import MOST_ADVANCE, REGISTERS, Answer, Step, parse_line
 
 from .banks import (
     ATTRIBUTE,
-    CLOCKING,
+    ATTRIBUTE_READ,
     COLOUR,
     ENABLE_MEMORY,
     GRAPHICS,
-    LINES,
     MAP,
     MISC,
     MONOCHROME,
-    OVERFLOW,
     SEQUENCER,
     STATUS,
-    TOTAL,
+    WINDOWS,
     Bank,
     Banks,
 )
+from .raster import CLOCKING, LINES, OVERFLOW, TOTAL
 from .wordings import WORDINGS, said
 
 
@@ -43,7 +42,6 @@ USUAL = 1 / 70
 SHAPING = {(SEQUENCER, CLOCKING), (COLOUR, TOTAL), (COLOUR, LINES), (COLOUR, OVERFLOW)}
 TELLING = {(COLOUR, TOTAL), (COLOUR, LINES), (COLOUR, OVERFLOW)}
 _PORTS = WORDINGS["ports"]
-SHOWN_WINDOWS = [(int(first, 16), int(last, 16)) for first, last in _PORTS["windows"]]
 READ_ALONE, READ_AND_WRITTEN, CRT_PORTS = (
     {int(port, 16) for port in _PORTS[name]}
     for name in ("read alone", "read and written", "of the CRT controller")
@@ -246,7 +244,8 @@ def _outside(state: Registers, address: int) -> str:
     """Why memory doesn't answer at an address; empty where it does."""
     if not state.banks.misc & ENABLE_MEMORY:
         return _why("memory off")
-    first, last = SHOWN_WINDOWS[state.map]
+    first, size = WINDOWS[state.map]
+    last = first + size - 1
     if first <= address <= last:
         return ""
     return _why("outside", map=state.map, first=first, last=last, address=address)
@@ -261,7 +260,7 @@ def _not_in_profile(state: Registers, access: Access) -> str:
     if port in LEFT_OUT and (is_read or port == 0x3C3):
         return _why("left out", port=port, name=LEFT_OUT[port])
     banks = state.banks
-    bank = banks.attr if port in (ATTRIBUTE, ATTRIBUTE + 1) else banks.bank(port - 1)
+    bank = banks.attr if port in (ATTRIBUTE, ATTRIBUTE_READ) else banks.bank(port - 1)
     return "" if bank is None else _left_out_of(banks, bank, access)
 
 

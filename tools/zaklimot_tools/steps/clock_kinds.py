@@ -1,22 +1,32 @@
 """Elements of the clock: where the beam is after so many dots, with the registers of its frame, or
 with others since the middle of one."""
 
-from zaklimot.format import Step
+from zaklimot.format import MOST_ADVANCE, Step
+from zaklimot_tools.explain.raster import (
+    DOUBLE_SCAN,
+    LINE_COMPARE,
+    LINES,
+    MOST_SCAN,
+    OFFSET,
+    PRESET_SCAN,
+    START_HIGH,
+    START_LOW,
+    TOTAL,
+    character_dots,
+    line_characters,
+)
 
 from .adapter import SteppedCard
 from .chance import Chance
 from .parts import Parts
 from .port_kinds import frame_dots, small_frame
-from .reaching import MOST_DOTS, steps_to
+from .reaching import steps_to
 from .wishes import ElementKind, Wish
 
 PARTS = ("seq", "crtc", "beam")
 EIGHT_DOTS, HALVED = 0x01, 0x08
-DOUBLE_SCAN = 0x80
 # Most frames that the clock runs on the way to a state, and in a step.
 FRAMES, MOST_FRAMES, MOST_STEPS = 32, 33, 3
-HORIZONTAL_TOTAL, VERTICAL_TOTAL, MAXIMUM_SCAN_LINE, LINE_COMPARE = 0x00, 0x06, 0x09, 0x18
-START_HIGH, START_LOW, PRESET, OFFSET = 0x0C, 0x0D, 0x08, 0x13
 
 
 def sequencer(chance: Chance) -> list[int]:
@@ -26,15 +36,10 @@ def sequencer(chance: Chance) -> list[int]:
     return [3, clocking, chance.bits(4), 0, 0x02]
 
 
-def width_of(seq: list[int]) -> int:
-    """How many dots a character has."""
-    return 8 if seq[1] & EIGHT_DOTS else 9
-
-
 def _dots_before(chance: Chance, crtc: list[int], width: int) -> int:
     """For how many dots the clock runs before: a few lines, or frames and a part of one."""
     whole = frame_dots(crtc, width)
-    line = (crtc[0] + 5) * width
+    line = line_characters(crtc) * width
     kind = chance.below(8)
     if kind == 0:
         return chance.below(2 * width)
@@ -61,7 +66,9 @@ def _count(chance: Chance, card: SteppedCard, width: int) -> int:
     if kind == 6:
         return chance.among((0, 1, 2, line, frame))
     if kind == 7 and chance.one_in(8):
-        return chance.among((MOST_DOTS, MOST_DOTS + 1, 0xFFFFFFFF, MOST_DOTS + 1 + chance.bits(31)))
+        return chance.among(
+            (MOST_ADVANCE, MOST_ADVANCE + 1, 0xFFFFFFFF, MOST_ADVANCE + 1 + chance.bits(31))
+        )
     if kind < 9:
         return line * chance.below(40) + chance.below(3)
     return chance.below(MOST_STEPS * frame)
@@ -71,14 +78,14 @@ def _advance(chance: Chance, card: SteppedCard, state: Parts, reach: Parts, what
     """The wish for a step of the clock, once the card has been brought to the state."""
     card.power_on()
     card.run(steps_to(state, reach))
-    count = _count(chance, card, width_of(state["seq"]))
+    count = _count(chance, card, character_dots(state["seq"]))
     return Wish(what, state, Step("advance", (count,)), reach)
 
 
 def _clock(chance: Chance, card: SteppedCard) -> Wish:
     state: Parts = {"seq": sequencer(chance), "crtc": small_frame(chance), "beam": {}}
-    reach = {"dots": _dots_before(chance, state["crtc"], width_of(state["seq"]))}
-    lines = state["crtc"][VERTICAL_TOTAL] + 2
+    reach = {"dots": _dots_before(chance, state["crtc"], character_dots(state["seq"]))}
+    lines = state["crtc"][LINES] + 2
     return _advance(chance, card, state, reach, f"clock, {lines} lines")
 
 
@@ -90,24 +97,24 @@ def _changed(chance: Chance, card: SteppedCard) -> Wish:
     seq = list(state["seq"])
     what = chance.among(("lines", "characters", "width", "rows", "compare", "start", "offset"))
     if what == "lines":
-        crtc[VERTICAL_TOTAL] = chance.below(before[VERTICAL_TOTAL] + 1)
+        crtc[LINES] = chance.below(before[LINES] + 1)
     elif what == "characters":
-        crtc[HORIZONTAL_TOTAL] = chance.below(before[HORIZONTAL_TOTAL] + 1)
+        crtc[TOTAL] = chance.below(before[TOTAL] + 1)
     elif what == "width":
         seq[1] ^= EIGHT_DOTS
     elif what == "rows":
-        crtc[MAXIMUM_SCAN_LINE] = chance.below(16) | DOUBLE_SCAN * chance.bits(1)
+        crtc[MOST_SCAN] = chance.below(16) | DOUBLE_SCAN * chance.bits(1)
     elif what == "compare":
-        crtc[LINE_COMPARE] = chance.below(before[VERTICAL_TOTAL] + 2)
+        crtc[LINE_COMPARE] = chance.below(before[LINES] + 2)
     elif what == "start":
         crtc[START_HIGH], crtc[START_LOW] = chance.byte(), chance.byte()
-        crtc[PRESET] = chance.bits(7)
+        crtc[PRESET_SCAN] = chance.bits(7)
     else:
         crtc[OFFSET] = chance.byte()
-    dots = _dots_before(chance, before, width_of(state["seq"]))
+    dots = _dots_before(chance, before, character_dots(state["seq"]))
     if what == "width" and chance.one_in(2):
         # To the last dot of a character: the ninth is past the end of one of eight.
-        width = width_of(state["seq"])
+        width = character_dots(state["seq"])
         dots = dots // width * width + width - 1
     reach = {"dots": dots, "crtc": before, "seq": state["seq"]}
     changed = {**state, "crtc": crtc, "seq": seq}

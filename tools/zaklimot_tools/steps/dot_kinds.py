@@ -5,23 +5,38 @@ from functools import partial
 from typing import Iterator
 
 from zaklimot.format import Step
+from zaklimot_tools.explain.banks import DAC_DATA, DAC_WRITE
+from zaklimot_tools.explain.raster import (
+    BYTE_MODE,
+    COUNTER,
+    DOUBLE_WORD,
+    LAST_LINE,
+    MODE_CONTROL,
+    SHOWN_CHARACTERS,
+    UNDERLINE,
+    WRAPS_AT_15,
+    character_dots,
+    character_maps,
+    fetch_address,
+    first_counter,
+    line_characters,
+    map_begin,
+)
 
 from .adapter import SteppedCard
 from .chance import Chance
-from .clock_kinds import EIGHT_DOTS, width_of
+from .clock_kinds import EIGHT_DOTS
 from .parts import LINE, Parts
 from .port_kinds import frame_dots, small_frame
-from .reaching import DAC_DATA, DAC_INDEX, out, steps_to
+from .reaching import out, steps_to
 from .wishes import ElementKind, Wish
 
 PARTS = ("seq", "gfx", "crtc", "attr_index", "attr", "dac_mask", "colours", "planes", "beam")
 TEXT, PLANES_16, PACKED_256 = "text", "16 colours", "256 colours"
-# Bits: graphics is on; 256 colours; the screen is off; double word and byte mode; the palette is
-# shown.
-GRAPHICS, PACKED, SCREEN_OFF, DOUBLE_WORD, BYTE_MODE, SHOWN = 0x01, 0x40, 0x20, 0x40, 0x40, 0x20
-WRAP_15 = 0x20
+# Bits: 256 colours; the screen is off; the palette is shown.
+PACKED, SCREEN_OFF, SHOWN = 0x40, 0x20, 0x20
 MONOCHROME, LINE_GRAPHICS, BLINK, PAN_RESET, SELECT = 0x02, 0x04, 0x08, 0x20, 0x80
-UNDERLINE, CURSOR_START, CURSOR_END = 0x14, 0x0A, 0x0B
+CURSOR_START, CURSOR_END = 0x0A, 0x0B
 GLYPH_ROWS, FRAMES = 32, 32
 # The step. It goes to the end of the line, and has no numbers.
 TO_LINE_END = Step(LINE)
@@ -55,17 +70,9 @@ def _controller(chance: Chance, kind: str) -> list[int]:
         crtc[UNDERLINE] = chance.below(16)
     fetching = chance.below(6)
     crtc[UNDERLINE] |= DOUBLE_WORD if fetching == 0 else 0
-    crtc[0x17] = 0x83 | (BYTE_MODE if fetching in (1, 2) else 0) | chance.among((0, WRAP_15))
+    wraps = chance.among((0, WRAPS_AT_15))
+    crtc[MODE_CONTROL] = 0x83 | (BYTE_MODE if fetching in (1, 2) else 0) | wraps
     return crtc
-
-
-def fetch_address(counter: int, crtc: list[int]) -> int:
-    """The offset at which a counter's bytes are fetched."""
-    if crtc[UNDERLINE] & DOUBLE_WORD:
-        return 4 * counter & 0xFFFF
-    if crtc[0x17] & BYTE_MODE:
-        return counter
-    return 2 * counter & 0xFFFF | counter >> (15 if crtc[0x17] & WRAP_15 else 13) & 1
 
 
 def counters_of(state: Parts, beam: Parts) -> list[int]:
@@ -73,38 +80,35 @@ def counters_of(state: Parts, beam: Parts) -> list[int]:
     base = beam["base"]
     if not (beam["line"] or beam["dot"] or beam["character"]):
         # The first dot of a frame takes the start address.
-        crtc = state["crtc"]
-        base = (crtc[0x0C] << 8 | crtc[0x0D]) + (crtc[8] >> 5 & 3)
-    return [base + number & 0xFFFF for number in range(state["crtc"][1] + 2)]
+        base = first_counter(state["crtc"])
+    return [base + number & COUNTER for number in range(state["crtc"][SHOWN_CHARACTERS] + 2)]
 
 
 def _text_planes(chance: Chance, state: Parts, beam: Parts) -> dict[int, list[int]]:
     """Characters, attributes and the rows of their glyphs."""
     found = dict[int, list[int]]()
     for counter in counters_of(state, beam):
-        place = found.setdefault(fetch_address(counter, state["crtc"]), [0, 0, 0, 0])
+        place = found.setdefault(fetch_address(state["crtc"], counter), [0, 0, 0, 0])
         place[0] = 0xC0 + chance.bits(5) if chance.one_in(3) else chance.bits(8)
         place[1] = chance.among((0x01, 0x09, 0x81)) if chance.one_in(4) else chance.byte()
     scan = beam["scan"] if beam["line"] else state["crtc"][8] & 31
     for place in list(found.values()):
-        offset = _glyph_row(state["seq"][3], place[0], place[1], scan)
+        offset = _glyph_row(state["seq"], place[0], place[1], scan)
         found.setdefault(offset, [0, 0, 0, 0])[2] = chance.byte()
     return found
 
 
-def _glyph_row(select: int, character: int, attribute: int, scan: int) -> int:
+def _glyph_row(seq: list[int], character: int, attribute: int, scan: int) -> int:
     """The offset of the row of a character's glyph, by the character map select."""
-    map_a = select >> 5 << 2 | select >> 2 & 3
-    map_b = (select >> 4 & 1) << 2 | select & 3
-    number = map_a if attribute & 8 else map_b
-    start = (number & 3) * 0x4000 + (number >> 2) * 0x2000
-    return start + GLYPH_ROWS * character + scan & 0xFFFF
+    maps = character_maps(seq)
+    begin = map_begin(maps.a if attribute & 8 else maps.b)
+    return begin + GLYPH_ROWS * character + scan & 0xFFFF
 
 
 def _graphics_planes(chance: Chance, state: Parts, beam: Parts) -> dict[int, list[int]]:
     """Bytes of all planes."""
     counters = counters_of(state, beam)
-    return {fetch_address(counter, state["crtc"]): chance.many(4) for counter in counters}
+    return {fetch_address(state["crtc"], counter): chance.many(4) for counter in counters}
 
 
 def _place_cursor(chance: Chance, state: Parts, beam: Parts) -> None:
@@ -132,10 +136,10 @@ def _state(chance: Chance, kind: str) -> tuple[Parts, Parts]:
         "dac_mask": chance.byte() if chance.one_in(3) else 0xFF,
         "beam": {},
     }
-    width = width_of(state["seq"])
+    width = character_dots(state["seq"])
     whole = frame_dots(crtc, width)
-    line = (crtc[0] + 5) * width
-    displayed = crtc[0x12] + (2 if chance.one_in(4) else 1)
+    line = line_characters(crtc) * width
+    displayed = crtc[LAST_LINE] + (2 if chance.one_in(4) else 1)
     dots = chance.below(FRAMES) * whole + chance.below(displayed) * line
     return state, {"dots": dots}
 
@@ -143,7 +147,7 @@ def _state(chance: Chance, kind: str) -> tuple[Parts, Parts]:
 def _own_colours() -> Iterator[Step]:
     """Gives each entry of the DAC a colour of its own, which isn't black: its low bits are the
     entry's number."""
-    yield out(DAC_INDEX, 0)
+    yield out(DAC_WRITE, 0)
     numbers = (value for entry in range(256) for value in (1, entry >> 6, entry & 0x3F))
     yield from (out(DAC_DATA, value) for value in numbers)
 

@@ -3,19 +3,34 @@
 from functools import partial
 from typing import Any, Callable, NamedTuple, Optional
 
-from .clock_kinds import width_of
-from .dot_kinds import BLINK, DOUBLE_WORD, LINE_GRAPHICS, MONOCHROME, PAN_RESET, SELECT
-from .dot_kinds import BYTE_MODE, WRAP_15, counters_of, fetch_address
+from zaklimot.format import MOST_ADVANCE
+from zaklimot_tools.explain.banks import RETRACE_END
+from zaklimot_tools.explain.raster import (
+    BYTE_MODE,
+    DOUBLE_SCAN,
+    DOUBLE_WORD,
+    MODE_CONTROL,
+    MOST_SCAN,
+    RETRACE_START,
+    UNDERLINE,
+    WRAPS_AT_15,
+    character_dots,
+    character_maps,
+    fetch_address,
+    frame_lines,
+    is_graphics,
+    line_characters,
+    line_compare,
+)
+
+from .dot_kinds import BLINK, LINE_GRAPHICS, MONOCHROME, PACKED_256, PAN_RESET, PLANES_16, SELECT
+from .dot_kinds import SCREEN_OFF, SHOWN, TEXT, counters_of
 from .parts import LINE
-from .reaching import MOST_DOTS
 from .seen import SeenElement, ShownRule
 
 PAGE, REGISTERS = "docs/RASTER.md#", "docs/REGISTERS.md#"
-TEXT, PLANES_16, PACKED_256 = "text", "16 colours", "256 colours"
 LINES, CLOCK = (LINE,), ("advance",)
-SCREEN_OFF, SHOWN = 0x20, 0x20
 CURSOR_OFF, HALF_OF_CURSOR, HALF_OF_BLINK = 0x20, 8, 16
-DOUBLE_SCAN = 0x80
 
 
 class Cell(NamedTuple):
@@ -33,7 +48,7 @@ def _shown(e: SeenElement) -> bool:
 
 
 def _kind(e: SeenElement) -> str:
-    if not e.gfx[6] & 1:
+    if not is_graphics(e.gfx):
         return TEXT
     return PACKED_256 if e.gfx[5] & 0x40 else PLANES_16
 
@@ -49,7 +64,7 @@ def _cells(e: SeenElement) -> list[Cell]:
     planes = {place[0]: place for place in e.planes}
     found = []
     for counter in counters_of(e.initial, e.beam)[:-1]:
-        place = planes.get(fetch_address(counter, e.crtc), (0, 0, 0, 0, 0))
+        place = planes.get(fetch_address(e.crtc, counter), (0, 0, 0, 0, 0))
         found.append(Cell(counter, place[1], place[2]))
     return found
 
@@ -62,10 +77,8 @@ def _scan(e: SeenElement) -> int:
 
 def _map(cell: Cell, e: SeenElement) -> int:
     """The number of the character map that a cell takes."""
-    select: int = e.seq[3]
-    if cell.attribute & 8:
-        return select >> 5 << 2 | select >> 2 & 3
-    return (select >> 4 & 1) << 2 | select & 3
+    maps = character_maps(e.seq)
+    return maps.a if cell.attribute & 8 else maps.b
 
 
 def _has_cell(e: SeenElement, **wanted: bool) -> bool:
@@ -108,7 +121,7 @@ def _pans(e: SeenElement) -> Optional[str]:
         return "below the line compare"
     if _kind(e) == PACKED_256:
         return PACKED_256
-    if width_of(e.seq) == 8:
+    if character_dots(e.seq) == 8:
         return "eight dots"
     return "nine dots, 8" if e.attr[0x13] == 8 else "nine dots"
 
@@ -120,22 +133,20 @@ def _panned(e: SeenElement, row: str) -> bool:
 def _fetches(e: SeenElement, kind: str) -> bool:
     if not _shown(e):
         return False
-    if e.crtc[0x14] & DOUBLE_WORD:
+    if e.crtc[UNDERLINE] & DOUBLE_WORD:
         return kind == "double word"
-    if e.crtc[0x17] & BYTE_MODE:
+    if e.crtc[MODE_CONTROL] & BYTE_MODE:
         return kind == "byte"
-    return kind == ("word, bit 15" if e.crtc[0x17] & WRAP_15 else "word, bit 13")
+    return kind == ("word, bit 15" if e.crtc[MODE_CONTROL] & WRAPS_AT_15 else "word, bit 13")
 
 
 def _ends(e: SeenElement) -> str:
     """What happens at the end of the element's line, by the first row that applies."""
-    crtc, beam = e.crtc, e.beam
-    compare = crtc[0x18] | (crtc[7] & 0x10) << 4 | (crtc[9] & 0x40) << 3
-    if beam["line"] == compare:
+    if e.beam["line"] == line_compare(e.crtc):
         return "line compare"
-    if crtc[9] & DOUBLE_SCAN and not beam["half"]:
+    if e.crtc[MOST_SCAN] & DOUBLE_SCAN and not e.beam["half"]:
         return "double scan"
-    return "the row goes on" if _scan(e) < crtc[9] & 31 else "the next row"
+    return "the row goes on" if _scan(e) < e.crtc[MOST_SCAN] & 31 else "the next row"
 
 
 def _line_ends(e: SeenElement, how: str) -> bool:
@@ -151,15 +162,12 @@ def _numbered(e: SeenElement, is_selected: bool) -> bool:
 
 def _position(e: SeenElement) -> int:
     """Which dot of its line the beam is at."""
-    return int(e.beam["character"]) * width_of(e.seq) + int(e.beam["dot"])
+    return int(e.beam["character"]) * character_dots(e.seq) + int(e.beam["dot"])
 
 
-def _total(e: SeenElement) -> int:
-    return int(e.crtc[0]) + 5
-
-
-def _frame_lines(e: SeenElement) -> int:
-    return int(e.crtc[6] + (e.crtc[7] & 1) * 256 + (e.crtc[7] >> 5 & 1) * 512) + 2
+def _line_dots(e: SeenElement) -> int:
+    """How many dots a line has."""
+    return line_characters(e.crtc) * character_dots(e.seq)
 
 
 def _status(e: SeenElement, value: int) -> bool:
@@ -168,8 +176,8 @@ def _status(e: SeenElement, value: int) -> bool:
 
 def _retrace(e: SeenElement, count: int) -> bool:
     """Whether the retrace lasts so many lines, and the beam is in it."""
-    start, end = e.crtc[0x10], e.crtc[0x11] & 15
-    return e.answer in (8, 9) and ((end - start - 1) % 16 + 1) == count
+    lines = (e.crtc[RETRACE_END] - e.crtc[RETRACE_START] - 1) % 16 + 1
+    return e.answer in (8, 9) and lines == count
 
 
 RULES = (
@@ -225,14 +233,15 @@ RULES = (
         PAGE + "text",
         LINES,
         {
-            "repeats the eighth": lambda e: width_of(e.seq) == 9
+            "repeats the eighth": lambda e: character_dots(e.seq) == 9
             and e.attr[0x10] & LINE_GRAPHICS
             and _has_cell(e, is_line=True),
-            "line graphics is off": lambda e: width_of(e.seq) == 9
+            "line graphics is off": lambda e: character_dots(e.seq) == 9
             and not e.attr[0x10] & LINE_GRAPHICS
             and _has_cell(e, is_line=True),
-            "of other characters": lambda e: width_of(e.seq) == 9 and _has_cell(e, is_line=False),
-            "of graphics is 0": lambda e: width_of(e.seq) == 9
+            "of other characters": lambda e: character_dots(e.seq) == 9
+            and _has_cell(e, is_line=False),
+            "of graphics is 0": lambda e: character_dots(e.seq) == 9
             and (_is(e, PLANES_16) or _is(e, PACKED_256)),
         },
     ),
@@ -347,11 +356,12 @@ RULES = (
         PAGE + "one-dot",
         CLOCK,
         {
-            "the line ends with this character": lambda e: e.beam["character"] >= _total(e)
+            "the line ends with this character": lambda e: e.beam["character"]
+            >= line_characters(e.crtc)
             and e.address > 0,
-            "the frame ends with this line": lambda e: e.beam["line"] >= _frame_lines(e)
+            "the frame ends with this line": lambda e: e.beam["line"] >= frame_lines(e.crtc)
             and e.address > 0,
-            "the character ends with this dot": lambda e: e.beam["dot"] >= width_of(e.seq)
+            "the character ends with this dot": lambda e: e.beam["dot"] >= character_dots(e.seq)
             and e.address > 0,
         },
     ),
@@ -370,10 +380,10 @@ RULES = (
         PAGE + "many-dots",
         CLOCK,
         {
-            "more than one line": lambda e: e.address > _total(e) * width_of(e.seq),
+            "more than one line": lambda e: e.address > _line_dots(e),
             "more than one frame": lambda e: not e.refused
-            and e.address > _total(e) * width_of(e.seq) * _frame_lines(e),
-            "too far": lambda e: e.refused == "TooFar" and e.address > MOST_DOTS,
+            and e.address > _line_dots(e) * frame_lines(e.crtc),
+            "too far": lambda e: e.refused == "TooFar" and e.address > MOST_ADVANCE,
         },
     ),
     ShownRule(

@@ -4,7 +4,7 @@ spread addresses over planes; and words."""
 from functools import partial
 
 from zaklimot.format import Step
-from zaklimot_tools.explain.banks import WINDOWS
+from zaklimot_tools.explain.banks import ENABLE_MEMORY, WINDOWS
 
 from .adapter import SteppedCard
 from .chance import Chance
@@ -14,8 +14,8 @@ from .wishes import ElementKind, Wish
 PARTS = ("misc", "seq", "gfx", "latches", "planes")
 CHAIN_4, ODD_EVEN, PLANAR = "chain 4", "odd/even", "planar"
 SPREADS = (CHAIN_4, ODD_EVEN, PLANAR)
-# Miscellaneous output with memory decoded, and bits that change nothing here.
-ENABLE_MEMORY, OTHER_BITS = 0x02, 0xED
+# Bits of miscellaneous output that change nothing here.
+OTHER_BITS = 0xED
 # Bits of memory mode: odd/even is off, and chain 4. Of graphics mode: read compare, odd/even, and
 # 256 colours. Of miscellaneous: graphics, and chain odd/even.
 ODD_EVEN_OFF, CHAIN = 0x04, 0x08
@@ -81,7 +81,7 @@ def address(chance: Chance, gfx: list[int], is_word: bool = False) -> int:
 
 def offsets_near(place: int, seq: list[int], gfx: list[int]) -> list[int]:
     """The offsets that an address may lead to, by any of the three ways, in order."""
-    offset = place - WINDOWS[gfx[6] >> 2][0] & 0xFFFF
+    offset = place - WINDOWS[gfx[6] >> 2].first & 0xFFFF
     ways = {offset, offset & 0xFFFE, offset & 0xFFFC}
     # Chain 4 takes every fourth byte of a plane. An adapter that packs them goes to another place.
     if seq[4] & CHAIN:

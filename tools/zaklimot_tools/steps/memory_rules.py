@@ -15,9 +15,8 @@ def _is_done(e: SeenElement) -> bool:
 
 def _map(e: SeenElement, number: int, first: int = 0, size: int = 1 << 17) -> bool:
     """Whether an address is in a window, and in this part of it."""
-    return (
-        _is_done(e) and e.gfx[6] >> 2 == number and first <= e.address - e.window[0] < first + size
-    )
+    at = e.address - e.window.first
+    return _is_done(e) and e.gfx[6] >> 2 == number and first <= at < first + size
 
 
 def _end(e: SeenElement, offset: int) -> bool:
@@ -332,7 +331,7 @@ RULES = (
             "its second byte is past the window": partial(_end, offset=-1),
             "its first byte is before the window": lambda e: e.refused
             and e.misc & 2
-            and e.address + 1 == e.window[0],
+            and e.address + 1 == e.window.first,
             "the last address of all": lambda e: e.address == 0xFFFFFFFF,
         },
     ),

@@ -4,20 +4,50 @@ ports, words, and input status 1."""
 from functools import partial
 
 from zaklimot.format import Step
+from zaklimot_tools.explain.banks import (
+    ATTRIBUTE,
+    ATTRIBUTE_READ,
+    COLOUR,
+    DAC_DATA,
+    DAC_READ,
+    DAC_WRITE,
+    GRAPHICS,
+    MASK,
+    MISC,
+    MISC_READ,
+    MONOCHROME,
+    PROTECT,
+    RETRACE_END,
+    SEQUENCER,
+    STATUS,
+)
+from zaklimot_tools.explain.raster import (
+    LAST_LINE,
+    LINE_COMPARE,
+    LINES,
+    MODE_CONTROL,
+    MOST_SCAN,
+    OFFSET,
+    OVERFLOW,
+    PRESET_SCAN,
+    RETRACE_START,
+    SHOWN_CHARACTERS,
+    START_HIGH,
+    START_LOW,
+    TOTAL,
+    frame_lines,
+    line_characters,
+)
 
 from .adapter import SteppedCard
 from .chance import Chance
 from .parts import Parts
 from .wishes import ElementKind, Wish
 
-# The ports by what is there.
-ATTRIBUTE, ATTRIBUTE_READ, MISC, ENABLE, MISC_READ = 0x3C0, 0x3C1, 0x3C2, 0x3C3, 0x3CC
-SEQUENCER, GRAPHICS, COLOUR, MONOCHROME = 0x3C4, 0x3CE, 0x3D4, 0x3B4
-MASK, DAC_READ, DAC_WRITE, DAC_DATA, FEATURE = 0x3C6, 0x3C7, 0x3C8, 0x3C9, 0x3CA
-STATUS_FROM_INDEX = 6
-PROTECT, RETRACE_START, RETRACE_END = 0x80, 0x10, 0x11
+# Ports that the profile leaves out: subsystem enable, and where feature control is read.
+ENABLE, FEATURE = 0x3C3, 0x3CA
 # A value of CRT controller's mode control that isn't refused, and the bits that may vary in it.
-MODE_CONTROL, COUNTING, COUNTED = 0x17, 0x03, 0xE0
+COUNTING, COUNTED = 0x03, 0xE0
 DAC = ("dac_index", "dac_component", "dac_mask", "dac_waiting", "colours")
 INDEXES = ("seq_index", "gfx_index", "crtc_index", "attr_index", "attr_is_data")
 SMALL_DAC = ("dac_index", "dac_component", "dac_mask")
@@ -64,9 +94,9 @@ def _graphics(chance: Chance, _: SteppedCard) -> Wish:
 def controller(chance: Chance, is_protected: bool) -> list[int]:
     """Values of all registers of the CRT controller."""
     values = chance.many(25)
-    values[0x11] = values[0x11] & ~PROTECT | (PROTECT if is_protected else 0)
+    values[RETRACE_END] = values[RETRACE_END] & ~PROTECT | (PROTECT if is_protected else 0)
     values[0x14] &= ~0x20
-    values[0x17] = COUNTING | values[0x17] & COUNTED
+    values[MODE_CONTROL] = COUNTING | values[MODE_CONTROL] & COUNTED
     return values
 
 
@@ -107,7 +137,7 @@ def _attribute(chance: Chance, _: SteppedCard) -> Wish:
         1: ("attribute register read", Step("in", (ATTRIBUTE_READ,))),
         2: ("attribute register read", Step("in", (ATTRIBUTE_READ,))),
         3: ("attribute read port written", Step("out", (ATTRIBUTE_READ, chance.byte()))),
-        4: ("status at the other base", Step("in", (base + STATUS_FROM_INDEX,))),
+        4: ("status at the other base", Step("in", (base + STATUS,))),
     }
     what = "attribute data" if state["attr_is_data"] else "attribute index"
     name, step = steps.get(kind, (what, Step("out", (ATTRIBUTE, chance.byte()))))
@@ -210,7 +240,7 @@ def _all_ports(chance: Chance) -> Parts:
 def _has_status(state: Parts, port: int) -> bool:
     """Whether a cycle reads the beam's status, of which these elements have no part."""
     base = COLOUR if state["misc"] & 1 else MONOCHROME
-    return port in (base + STATUS_FROM_INDEX, base + STATUS_FROM_INDEX - 1)
+    return port in (base + STATUS, base + STATUS - 1)
 
 
 def _reads_register(state: Parts, port: int) -> bool:
@@ -270,11 +300,11 @@ def _status(chance: Chance, card: SteppedCard) -> Wish:
         "beam": {},
     }
     base = COLOUR if misc & 1 else MONOCHROME
-    port = base + STATUS_FROM_INDEX
+    port = base + STATUS
     if chance.one_in(16):
         return Wish("feature control", state, Step("out", (port, chance.byte())), {"dots": 0})
     whole = frame_dots(crtc, 9)
-    line = (crtc[0] + 5) * 9
+    line = line_characters(crtc) * 9
     dots = chance.below(2 * whole)
     if chance.one_in(3):
         # Near the retrace, which is short.
@@ -288,27 +318,30 @@ def small_frame(chance: Chance) -> list[int]:
     crtc = [0] * 25
     shown = chance.between(1, 5)
     lines = chance.between(1, 40)
-    crtc[0] = max(0, shown + chance.below(5) - 5) if chance.one_in(8) else shown + chance.below(5)
-    crtc[1] = shown - 1
-    crtc[6] = lines + chance.below(24)
-    crtc[7] = chance.among((0, 0, 0, 0x10))
-    crtc[8] = chance.bits(7) if chance.one_in(4) else 0
-    crtc[9] = chance.bits(8) & 0x87 if chance.one_in(4) else chance.below(16)
-    crtc[0x0C], crtc[0x0D] = chance.byte(), chance.byte()
+    is_narrow = chance.one_in(8)
+    more = chance.below(5)
+    crtc[TOTAL] = max(0, shown + more - 5) if is_narrow else shown + more
+    crtc[SHOWN_CHARACTERS] = shown - 1
+    crtc[LINES] = lines + chance.below(24)
+    crtc[OVERFLOW] = chance.among((0, 0, 0, 0x10))
+    crtc[PRESET_SCAN] = chance.bits(7) if chance.one_in(4) else 0
+    crtc[MOST_SCAN] = chance.bits(8) & 0x87 if chance.one_in(4) else chance.below(16)
+    crtc[START_HIGH] = chance.byte()
+    crtc[START_LOW] = chance.byte()
     crtc[RETRACE_START] = chance.below(lines + 24)
     # The retrace lasts a line, or 1 to 16.
     lasts = crtc[RETRACE_START] + 1 & 15
     crtc[RETRACE_END] = lasts if chance.one_in(3) else chance.bits(4)
-    crtc[0x12] = lines - 1
-    crtc[0x13] = chance.byte()
-    crtc[0x17] = COUNTING | chance.bits(8) & COUNTED
-    crtc[0x18] = chance.below(lines) if chance.one_in(3) else 0xFF
+    crtc[LAST_LINE] = lines - 1
+    crtc[OFFSET] = chance.byte()
+    crtc[MODE_CONTROL] = COUNTING | chance.bits(8) & COUNTED
+    crtc[LINE_COMPARE] = chance.below(lines) if chance.one_in(3) else 0xFF
     return crtc
 
 
 def frame_dots(crtc: list[int], width: int) -> int:
     """How many dots such a frame has, with characters of so many."""
-    return (crtc[0] + 5) * width * (crtc[6] + 2)
+    return line_characters(crtc) * width * frame_lines(crtc)
 
 
 def port_kinds() -> list[ElementKind]:

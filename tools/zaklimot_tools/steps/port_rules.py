@@ -2,14 +2,21 @@
 
 from functools import partial
 
+from zaklimot_tools.explain.banks import (
+    COLOUR,
+    GRAPHICS,
+    MONOCHROME,
+    PROTECT,
+    RETRACE_END,
+    SEQUENCER,
+    STATUS,
+)
+
 from .seen import Branch, SeenElement, ShownRule
 
 PAGE = "docs/REGISTERS.md#"
 BYTES, WORDS = ("out", "in"), ("outw", "inw")
 ANY = (*BYTES, *WORDS)
-SEQUENCER, GRAPHICS = 0x3C4, 0x3CE
-COLOUR, MONOCHROME, STATUS = 0x3D4, 0x3B4, 6
-PROTECT = 0x80
 
 
 def _at(e: SeenElement, step: str, port: int) -> bool:
@@ -51,7 +58,7 @@ def _controller(e: SeenElement, step: str, first: int, last: int) -> bool:
 
 
 def _protected(e: SeenElement) -> bool:
-    return bool(e.crtc[0x11] & PROTECT)
+    return bool(e.crtc[RETRACE_END] & PROTECT)
 
 
 def _attribute(e: SeenElement, is_data: int) -> bool:

@@ -3,30 +3,38 @@ tells it."""
 
 from typing import Iterable, Iterator, Sequence
 
-from zaklimot.format import Step
+from zaklimot.format import MOST_ADVANCE, Step
+from zaklimot_tools.explain.banks import (
+    ATTRIBUTE,
+    COLOUR,
+    DAC_DATA,
+    DAC_WRITE,
+    ENABLE_MEMORY,
+    GRAPHICS,
+    IS_COLOUR,
+    MASK,
+    MISC,
+    PROTECT,
+    RETRACE_END,
+    SEQUENCER,
+    STATUS,
+)
 
 from .parts import CURSORS, Parts
 
-# The ports that the list uses: miscellaneous output, the indexes, and input status 1 where bit 0 of
-# miscellaneous output is 1.
-MISC, SEQUENCER, GRAPHICS, CONTROLLER, ATTRIBUTE = 0x3C2, 0x3C4, 0x3CE, 0x3D4, 0x3C0
-STATUS, MASK, DAC_INDEX, DAC_DATA = 0x3DA, 0x3C6, 0x3C8, 0x3C9
-# Memory is decoded, and the CRT controller is at 3D4.
-OPEN = 0x03
+# Memory is decoded, and the CRT controller is at 3D4; so input status 1 is at this port.
+OPEN, STATUS_PORT = ENABLE_MEMORY | IS_COLOUR, COLOUR + STATUS
 # Memory such that a byte goes to the planes of the map mask at its address' offset: memory mode,
 # graphics registers, and the window of 64 KiB.
 PLANAR = ((SEQUENCER, 4, 0x06), (GRAPHICS, 1, 0), (GRAPHICS, 3, 0), (GRAPHICS, 5, 0))
 WINDOW = ((GRAPHICS, 6, 0x04), (GRAPHICS, 8, 0xFF))
 FIRST_ADDRESS, LAST_OFFSET = 0xA0000, 0xFFFF
 MAP_MASK, ALL_PLANES, PLANES = 2, 0x0F, 4
-# The register whose bit protects registers 0 to 7 of the CRT controller.
-PROTECTING, PROTECT = 0x11, 0x80
 # The services that bring the BIOS data to what they are to be, and heights of glyphs with the part
 # of service 11 that loads them.
 KEEP_MEMORY = 0x80
 LOADS = {8: 0x1112, 14: 0x1111}
 SERVICE_01, SERVICE_02, SERVICE_05 = 0x0100, 0x0200, 0x0500
-MOST_DOTS = 16_777_216
 
 
 def out(port: int, value: int) -> Step:
@@ -95,18 +103,18 @@ def _registers(port: int, values: object) -> Iterator[Step]:
 def _controller(values: object) -> Iterator[Step]:
     """The registers of the CRT controller: what protects the first of them comes last."""
     if isinstance(values, list):
-        protecting = values[PROTECTING]
-        yield register(CONTROLLER, PROTECTING, protecting & ~PROTECT)
-        yield from _registers(CONTROLLER, [*values[:PROTECTING], protecting & ~PROTECT])
-        for index in range(PROTECTING + 1, len(values)):
-            yield register(CONTROLLER, index, values[index])
-        yield register(CONTROLLER, PROTECTING, protecting)
+        protecting = values[RETRACE_END]
+        yield register(COLOUR, RETRACE_END, protecting & ~PROTECT)
+        yield from _registers(COLOUR, [*values[:RETRACE_END], protecting & ~PROTECT])
+        for index in range(RETRACE_END + 1, len(values)):
+            yield register(COLOUR, index, values[index])
+        yield register(COLOUR, RETRACE_END, protecting)
 
 
 def _attributes(values: object) -> Iterator[Step]:
     """The registers of the attribute controller, with the palette open to writes."""
     if isinstance(values, list):
-        yield Step("in", (STATUS,))
+        yield Step("in", (STATUS_PORT,))
         for index, value in enumerate(values):
             yield out(ATTRIBUTE, index)
             yield out(ATTRIBUTE, value)
@@ -147,7 +155,7 @@ def _entries(places: Sequence[Sequence[int]]) -> Iterator[Step]:
     after = -1
     for entry, *components in places:
         if entry != after:
-            yield out(DAC_INDEX, entry)
+            yield out(DAC_WRITE, entry)
         yield from (out(DAC_DATA, component) for component in components)
         after = entry + 1
 
@@ -157,10 +165,10 @@ def _dac(state: Parts) -> Iterator[Step]:
     if "dac_mask" in state:
         yield out(MASK, state["dac_mask"])
     if "dac_waiting" in state:
-        yield out(DAC_INDEX, 0)
+        yield out(DAC_WRITE, 0)
         yield from (out(DAC_DATA, component) for component in state["dac_waiting"])
     if "dac_index" in state:
-        yield out(DAC_INDEX, state["dac_index"])
+        yield out(DAC_WRITE, state["dac_index"])
         yield from [Step("in", (DAC_DATA,))] * state.get("dac_component", 0)
 
 
@@ -169,19 +177,19 @@ def _indexes(state: Parts) -> Iterator[Step]:
     for name, port in (
         ("seq_index", SEQUENCER),
         ("gfx_index", GRAPHICS),
-        ("crtc_index", CONTROLLER),
+        ("crtc_index", COLOUR),
     ):
         if name in state:
             yield out(port, state[name])
     if "attr_index" in state:
-        yield Step("in", (STATUS,))
+        yield Step("in", (STATUS_PORT,))
         yield out(ATTRIBUTE, state["attr_index"])
-        yield from [] if state.get("attr_is_data") else [Step("in", (STATUS,))]
+        yield from [] if state.get("attr_is_data") else [Step("in", (STATUS_PORT,))]
 
 
 def _dots(count: int) -> Iterator[Step]:
     """The clock runs for so many dots, in as few steps as may be."""
     while count:
-        some = min(count, MOST_DOTS)
+        some = min(count, MOST_ADVANCE)
         yield Step("advance", (some,))
         count -= some

@@ -5,23 +5,31 @@ import copy
 from typing import Any, Iterator, NamedTuple, Optional, Sequence
 
 from zaklimot.format import Step, printed
+from zaklimot_tools.explain.banks import (
+    ATTRIBUTE,
+    ATTRIBUTE_READ,
+    COLOUR,
+    DAC_DATA,
+    DAC_READ,
+    DAC_WRITE,
+    GRAPHICS,
+    IS_COLOUR,
+    MASK,
+    MISC,
+    MISC_READ,
+    MONOCHROME,
+    SEQUENCER,
+    STATUS,
+)
 
 from .parts import FINAL, Element, Parts
 from .reaching import (
     ALL_PLANES,
-    ATTRIBUTE,
-    CONTROLLER,
-    DAC_DATA,
-    DAC_INDEX,
     FIRST_ADDRESS,
-    GRAPHICS,
     MAP_MASK,
-    MASK,
-    MISC,
     OPEN,
     PLANAR,
     PLANES,
-    SEQUENCER,
     WINDOW,
     out,
     put,
@@ -29,7 +37,6 @@ from .reaching import (
     scratch,
 )
 
-MISC_READ, DAC_READ, ATTRIBUTE_DATA, STATUS_FROM_INDEX = 0x3CC, 0x3C7, 0x3C1, 6
 MODE, READ_MAP, WRITE_MODE_1, SHOWN = 5, 4, 1, 0x20
 # The parts of which nothing can be read.
 HIDDEN = ("attr_is_data", "dac_component", "dac_waiting", "sums", "beam", "bda")
@@ -53,8 +60,8 @@ def _does(*steps: Step) -> Iterator[ReadCycle]:
 
 def cycles_of(state: Parts) -> Iterator[ReadCycle]:
     """The cycles that read a state. What changes it comes after what doesn't."""
-    base = CONTROLLER - (0 if state.get("misc", 1) & 1 else 0x20)
-    indexes = (("dac_mask", MASK), ("dac_index", DAC_INDEX), ("attr_index", ATTRIBUTE))
+    base = COLOUR if state.get("misc", IS_COLOUR) & IS_COLOUR else MONOCHROME
+    indexes = (("dac_mask", MASK), ("dac_index", DAC_WRITE), ("attr_index", ATTRIBUTE))
     yield from (_in(port, name) for name, port in indexes if name in state)
     for name, port in (("seq", SEQUENCER), ("gfx", GRAPHICS), ("crtc", base)):
         yield from _bank(state, name, port)
@@ -78,8 +85,8 @@ def _attributes(state: Parts, base: int) -> Iterator[ReadCycle]:
     """The registers of the attribute controller; the palette stays shown or hidden as it is."""
     shown = state.get("attr_index", 0) & SHOWN
     for index in range(len(state.get("attr", ()))):
-        yield from _does(Step("in", (base + STATUS_FROM_INDEX,)), out(ATTRIBUTE, index | shown))
-        yield _in(ATTRIBUTE_DATA, "attr", index)
+        yield from _does(Step("in", (base + STATUS,)), out(ATTRIBUTE, index | shown))
+        yield _in(ATTRIBUTE_READ, "attr", index)
 
 
 def _memory(state: Parts) -> Iterator[ReadCycle]:

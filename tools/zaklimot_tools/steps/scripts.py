@@ -8,8 +8,8 @@ import zlib
 from typing import Any, Callable, Iterator, NamedTuple, Optional, Sequence
 
 from zaklimot.format import REFUSALS, Answer, Picture, Report, Script, Step, printed, refusal_of
+from zaklimot_tools.explain.raster import character_dots, line_characters
 
-from .clock_kinds import width_of
 from .making import dots_answer
 from .parts import (
     ANSWER,
@@ -63,7 +63,7 @@ def reached(element: Element) -> list[Step]:
 
 def line_dots(state: Parts) -> int:
     """How many dots a line has."""
-    return (int(state["crtc"][0]) + 5) * width_of(state["seq"])
+    return line_characters(state["crtc"]) * character_dots(state["seq"])
 
 
 def scripted(element: Element) -> Step:

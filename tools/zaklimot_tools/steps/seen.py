@@ -4,7 +4,7 @@ from __future__ import annotations
 
 from typing import Any, Callable, Mapping, NamedTuple
 
-from zaklimot_tools.explain.banks import WINDOWS
+from zaklimot_tools.explain.banks import COLOUR, IS_COLOUR, MONOCHROME, WINDOWS, MemoryWindow
 
 from .parts import ANSWER, FINAL, INITIAL, ORDER, REACH, REFUSED, Element, Parts
 from .reading import step_of
@@ -50,14 +50,14 @@ class SeenElement:
         return self.numbers[1]
 
     @property
-    def window(self) -> tuple[int, int]:
-        """The first address of the window, and its size."""
+    def window(self) -> MemoryWindow:
+        """The window in which memory answers."""
         return WINDOWS[self.gfx[6] >> 2]
 
     @property
     def place(self) -> int:
         """The address less the first of its window, modulo 65,536."""
-        return self.address - self.window[0] & 0xFFFF
+        return self.address - self.window.first & 0xFFFF
 
     @property
     def write_mode(self) -> int:
@@ -72,17 +72,17 @@ class SeenElement:
     @property
     def reached(self) -> int:
         """The planes that a write at the address reaches, a bit each."""
-        seq, mask = self.seq, int(self.seq[2])
-        if seq[4] & 8:
+        mask = int(self.seq[2])
+        if self.seq[4] & 8:
             return mask & 1 << (self.place & 3)
-        if not seq[4] & 4:
+        if not self.seq[4] & 4:
             return mask & (0b1010 if self.place & 1 else 0b0101)
         return mask
 
     @property
     def base(self) -> int:
         """The port of the CRT controller's index."""
-        return 0x3D4 if self.misc & 1 else 0x3B4
+        return COLOUR if self.misc & IS_COLOUR else MONOCHROME
 
     @property
     def ah(self) -> int:

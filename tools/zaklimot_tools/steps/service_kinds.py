@@ -315,7 +315,7 @@ def _touched(cycles: Sequence[Step], state: Parts) -> list[int]:
     for step in cycles:
         place = step.numbers[0]
         if step.name in ("put", "get"):
-            offset = place - WINDOWS[gfx[6] >> 2][0] & 0xFFFF
+            offset = place - WINDOWS[gfx[6] >> 2].first & 0xFFFF
             found.add(offset & 0xFFFC if seq[4] & 8 else offset & 0xFFFE if gfx[6] & 2 else offset)
         elif step.name == "out" and place in indexes:
             indexes[place] = step.numbers[1]

@@ -3,15 +3,13 @@ is then."""
 
 from typing import Iterable, Iterator, Optional
 
+from zaklimot_tools.explain.raster import retrace_start
 from zaklimot_tools.explain.registers import Registers
 
 from .step import FRAME, WRITES, TraceStep, advances
 
 # The bit of input status 1 that is set during vertical retrace.
 RETRACE = 0x08
-# The CRT controller's registers of the line in which vertical retrace begins: its low byte, and
-# those of bits 8 and 9.
-RETRACE_START, OVERFLOW = 0x10, 0x07
 # The beam is taken to be there by less than this part of a frame.
 MOST_JITTER = 16
 
@@ -102,9 +100,7 @@ class Beamed:
         if not (step.value & RETRACE and not before.value & RETRACE):
             return
         lines, characters, width = self._registers.banks.shape
-        crtc = self._registers.banks.crtc.registers
-        bits = crtc[OVERFLOW]
-        line = crtc[RETRACE_START] | (bits & 4) << 6 | (bits & 0x80) << 2
+        line = retrace_start(self._registers.banks.crtc.registers)
         begin = min(line, lines - 1) * characters * width
         off = (begin - self._place + dots / 2) % dots - dots / 2
         if self._place + off < self._told and -off > dots / MOST_JITTER:

@@ -8,21 +8,29 @@ from itertools import groupby
 from typing import Iterator, NamedTuple, Sequence
 
 from zaklimot_tools.core.trouble import Trouble
+from zaklimot_tools.explain.raster import (
+    COUNTER,
+    DOUBLE_SCAN,
+    MOST_SCAN,
+    OFFSET,
+    PRESET_SCAN,
+    SHOWN_CHARACTERS,
+    UNDERLINE,
+    fetch_address,
+    first_counter,
+    is_graphics,
+    last_line,
+    line_compare,
+)
 from zaklimot_tools.images.png import WIDENED
 
 from .asked import USUAL_PAGE
 from .state import COMPONENTS, State
 
-# Registers of the CRT controller, and bits of them.
-SHOWN_CHARACTERS, OVERFLOW, PRESET_SCAN, MOST_SCAN = 0x01, 0x07, 0x08, 0x09
-START_HIGH, START_LOW, LAST_LINE, OFFSET = 0x0C, 0x0D, 0x12, 0x13
-UNDERLINE, MODE_CONTROL, LINE_COMPARE = 0x14, 0x17, 0x18
-DOUBLE_WORD, WRAPS_AT_15, BYTE_MODE, DOUBLE_SCAN = 0x40, 0x20, 0x40, 0x80
 # Registers of the attribute controller, and bits of its mode control.
 CONTROL, OVERSCAN, PLANE_ENABLE, COLOUR_SELECT = 0x10, 0x11, 0x12, 0x14
 IS_MONOCHROME, BLINKS, SELECTS_TWO, SOURCE = 0x02, 0x08, 0x80, 0x20
 SCREEN_OFF = 0x20
-COUNTER = 0xFFFF
 # The CRT controller's registers of the cursor.
 CURSOR = (0x0A, 0x0B, 0x0E, 0x0F)
 # What a VGA's own glyphs show where a code page has controls.
@@ -48,29 +56,15 @@ class TextCell(NamedTuple):
     attribute: int
 
 
-def is_text(state: State) -> bool:
-    """Whether text is shown, and not graphics."""
-    return not state.gfx.registers[6] & 1
-
-
-def start_of(state: State) -> int:
-    """The counter of the first character, without byte panning."""
-    crtc = state.crtc.registers
-    return crtc[START_HIGH] << 8 | crtc[START_LOW]
-
-
 def lines_shown(state: State) -> int:
     """How many lines of a frame are displayed."""
-    crtc = state.crtc.registers
-    bits = crtc[OVERFLOW]
-    last = crtc[LAST_LINE] | (bits & 0x02) << 7 | (bits & 0x40) << 3
-    return min(last + 1, state.shape[0])
+    return min(last_line(state.crtc.registers) + 1, state.shape[0])
 
 
 def _bases(crtc: tuple[int, ...], lines: int) -> Sequence[int]:
     """The counters of the first characters of the rows that are shown: see docs/RASTER.md."""
-    compare = crtc[LINE_COMPARE] | (crtc[OVERFLOW] & 0x10) << 4 | (crtc[MOST_SCAN] & 0x40) << 3
-    base = ((crtc[START_HIGH] << 8 | crtc[START_LOW]) + (crtc[PRESET_SCAN] >> 5 & 3)) & COUNTER
+    compare = line_compare(crtc)
+    base = first_counter(crtc)
     scan = crtc[PRESET_SCAN] & 0x1F
     half = 0
     bases = [base]
@@ -90,32 +84,18 @@ def _bases(crtc: tuple[int, ...], lines: int) -> Sequence[int]:
     return bases
 
 
-def fetch_address(state: State, counter: int) -> int:
-    """The offset in each plane at which the bytes of a counter are fetched."""
-    return _fetched(state.crtc.registers, counter)
-
-
-def _fetched(crtc: Sequence[int], counter: int) -> int:
-    if crtc[UNDERLINE] & DOUBLE_WORD:
-        return 4 * counter & COUNTER
-    if crtc[MODE_CONTROL] & BYTE_MODE:
-        return counter
-    wrapped = counter >> (15 if crtc[MODE_CONTROL] & WRAPS_AT_15 else 13) & 1
-    return 2 * counter & COUNTER | wrapped
-
-
 @lru_cache(1 << 8)
 def _offsets(crtc: tuple[int, ...], columns: int, lines: int) -> Sequence[Sequence[int]]:
     """The offsets in the planes of the cells of each row that is shown."""
     return [
-        [_fetched(crtc, base + at & COUNTER) for at in range(columns)]
+        [fetch_address(crtc, base + at & COUNTER) for at in range(columns)]
         for base in _bases(crtc, lines)
     ]
 
 
 def _places(state: State, name: str) -> Sequence[Sequence[int]]:
     """The same of a state; a Trouble where graphics are shown."""
-    if not is_text(state):
+    if is_graphics(state.gfx.registers):
         raise Trouble("it shows graphics then, and no text: `vga-trace screen` shows them", name)
     crtc = state.crtc.registers
     columns = min(crtc[SHOWN_CHARACTERS] + 1, state.shape[1])

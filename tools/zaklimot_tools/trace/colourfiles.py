@@ -3,8 +3,15 @@
 from typing import Iterator, Sequence
 
 from zaklimot.format import PLANE_BYTES, Picture
+from zaklimot_tools.explain.raster import (
+    OFFSET,
+    fetch_address,
+    is_graphics,
+    row_lines,
+    start_address,
+)
 
-from .cells import OFFSET, fetch_address, is_text, lines_shown, start_of, widened
+from .cells import lines_shown, widened
 from .fontfiles import FONT_PLANE, GLYPH_BYTES
 from .state import COMPONENTS, ENTRIES, PLANES, State
 
@@ -14,7 +21,7 @@ COLUMNS = 16
 LIGHT = 63
 # Where no offset is set, a row of a plane has so many bytes.
 USUAL_ROW = 80
-GRAPHICS_MODE, COLOURS_256, MOST_SCAN = 5, 0x40, 0x09
+GRAPHICS_MODE, COLOURS_256 = 5, 0x40
 # How many glyphs stand side by side.
 GLYPHS_IN_ROW = 64
 # So many pages are drawn at most.
@@ -38,7 +45,8 @@ def jasc_of(state: State) -> bytes:
 
 def has_256_colours(state: State) -> bool:
     """Whether a byte of a plane is two dots of a colour of the DAC."""
-    return not is_text(state) and bool(state.gfx.registers[GRAPHICS_MODE] & COLOURS_256)
+    gfx = state.gfx.registers
+    return is_graphics(gfx) and bool(gfx[GRAPHICS_MODE] & COLOURS_256)
 
 
 def plane_pictures(state: State) -> Iterator[Picture]:
@@ -54,7 +62,7 @@ def plane_pictures(state: State) -> Iterator[Picture]:
     for plane in range(PLANES):
         shift = 8 * plane
         data = bytes(word >> shift & 0xFF for word in state.memory.words)
-        if plane == FONT_PLANE and is_text(state):
+        if plane == FONT_PLANE and not is_graphics(state.gfx.registers):
             yield _glyphs(data)
             continue
         data += bytes(rows * row - len(data))
@@ -88,18 +96,16 @@ def _colours(state: State) -> Sequence[bytes]:
 
 def _spread(state: State) -> int:
     """How many bytes of a plane lie between two counters."""
-    return fetch_address(state, 1)
+    return fetch_address(state.crtc.registers, 1)
 
 
 def starts_of_pages(state: State) -> Sequence[int]:
     """The counters at which pages begin: as many as memory holds of the one that is shown, a power
     of two apart."""
-    row = 2 * state.crtc.registers[OFFSET]
-    scans = (state.crtc.registers[MOST_SCAN] & 0x1F) + 1 << (state.crtc.registers[MOST_SCAN] >> 7)
-    counters = row * -(-lines_shown(state) // scans)
+    crtc = state.crtc.registers
+    counters = 2 * crtc[OFFSET] * -(-lines_shown(state) // row_lines(crtc))
     size = 1 << max(0, counters - 1).bit_length()
     # Text is reached through 32 KiB, a byte of which is a character or an attribute.
-    most = PLANE_BYTES // _spread(state) // (2 if is_text(state) else 1)
+    most = PLANE_BYTES // _spread(state) // (1 if is_graphics(state.gfx.registers) else 2)
     starts = range(0, most, size) if counters and size <= most else range(1)
-    first = start_of(state)
-    return sorted({*starts[:MOST_PAGES], first})
+    return sorted({*starts[:MOST_PAGES], start_address(crtc)})

@@ -5,9 +5,8 @@ import argparse
 from contextlib import ExitStack
 from dataclasses import dataclass, field
 from itertools import zip_longest
-from typing import Iterator, Optional, Sequence, cast
+from typing import Iterator, NamedTuple, Optional, Sequence
 
-from zaklimot import format
 from zaklimot.format import MOST_ADVANCE, Picture
 from zaklimot_tools.core.files import STANDARD
 from zaklimot_tools.core.progress import Progress
@@ -20,11 +19,11 @@ from zaklimot_tools.report.expecting import NAMES
 from zaklimot_tools.script.program import found_program
 
 from .moments import SECOND, Passed
+from .state import FRAMES
 from .step import INT, PORTS, WRITES, TraceStep, advances, steps_of, without_polls
 from .trace import opened
-from .walking import Item, Question, Walk
+from .walking import FRAME_STEP, Item, Question, Walk
 
-FRAME = format.Step("frame", ())
 # What is called by another name than that of a register behind an index.
 PLAIN_PORTS = {
     MISC: "misc",
@@ -33,8 +32,8 @@ PLAIN_PORTS = {
     DAC_WRITE: "DAC index for writing",
     DAC_DATA: "DAC component",
 }
-# The cursor and blinking text are as they were after so many frames.
-PHASES = 32
+# The registers behind indexes, by their names in dumps.
+BANKS = ("seq", "gfx", "crtc")
 
 
 @dataclass(frozen=True)
@@ -81,9 +80,9 @@ class Writes:
         if banks.bank(port) is not None:
             return ""
         bank = banks.bank(port - 1)
-        ids = {id(banks.seq): "seq", id(banks.gfx): "gfx", id(banks.crtc): "crtc"}
         if bank is not None:
-            return _named(ids[id(bank)], bank.number)
+            group = next(name for name in BANKS if getattr(banks, name) is bank)
+            return _named(group, bank.number)
         return PLAIN_PORTS.get(port, f"port {port:03X}")
 
 
@@ -91,6 +90,26 @@ def _named(group: str, number: int) -> str:
     """A register as dumps call it: `crtc 0C start address high`."""
     names = NAMES[group]
     return f"{group} {number:02X} {names[number] if number < len(names) else ''}".rstrip()
+
+
+@dataclass(frozen=True)
+class ShownPicture:
+    """When a picture is shown, and the picture; None of a frame without one."""
+
+    told: str
+    picture: Optional[Picture]
+
+    @property
+    def line(self) -> str:
+        """What is told of it."""
+        return f"{'ragged' if self.picture is None else self.picture.size}, at {self.told}"
+
+
+class DifferingPictures(NamedTuple):
+    """The first pictures that differ; None where a recording has no more, or a frame has none."""
+
+    one: Optional[Picture]
+    other: Optional[Picture]
 
 
 @dataclass
@@ -117,7 +136,7 @@ class Recording:
             if step.opcode in PORTS or step.opcode == INT:
                 yield from (Write(*what, self.passed.told) for what in writes.of(step))
 
-    def items(self, stack: ExitStack) -> Iterator[Item]:
+    def items(self, stack: ExitStack) -> Iterator[Item[str]]:
         """The steps, and a frame where nothing was written for a while, and at the end."""
         registers = Registers()
         last: Optional[int] = None
@@ -133,24 +152,23 @@ class Recording:
             yield step
         yield from _drawn(registers, told)
 
-    def pictures(self, walk: Walk, stack: ExitStack) -> Iterator[tuple[str, Optional[Picture]]]:
-        """The pictures that stand for a while, and when; of equal ones that follow one another the
-        first. None is a frame without a picture."""
+    def pictures(self, walk: Walk, stack: ExitStack) -> Iterator[ShownPicture]:
+        """The pictures that stand for a while; of equal ones that follow one another the first."""
         last: Optional[str] = ""
-        for tag, answer in walk.answers(self.items(stack)):
+        for told, answer in walk.answers(self.items(stack)):
             picture = answer.picture if isinstance(answer.picture, Picture) else None
             digest = None if picture is None else picture.sum
             if digest != last:
-                yield cast(str, tag), picture
+                yield ShownPicture(told, picture)
             last = digest
 
 
-def _drawn(registers: Registers, told: str) -> Iterator[Item]:
+def _drawn(registers: Registers, told: str) -> Iterator[Item[str]]:
     """A frame, and as many behind it as it takes until the cursor and blinking text are as they
     were."""
-    yield Question(FRAME, told)
+    yield Question(FRAME_STEP, told)
     speed = registers.speed()
-    dots = 0 if speed is None else (PHASES - 1) * speed[0]
+    dots = 0 if speed is None else (FRAMES - 1) * speed[0]
     yield from advances(dots if dots <= MOST_ADVANCE else 0)
 
 
@@ -165,11 +183,17 @@ def compare_recordings(words: argparse.Namespace, progress: Progress) -> int:
     with ExitStack() as stack:
         walk = Walk(program, words.fonts, progress)
         differing = _compare_pictures([one.pictures(walk, stack) for one in both], both, progress)
-    if words.picture is not None and differing is not None and None not in differing:
-        one, other = cast(Sequence[Picture], differing)
-        save_png(words.picture, one, Shape(words.scale, words.aspect), other)
-        print(words.picture)
+    if words.picture is not None and differing is not None:
+        _save(words, differing)
     return AGREED if are_alike and differing is None else DIFFERED
+
+
+def _save(words: argparse.Namespace, differing: DifferingPictures) -> None:
+    """Writes where two pictures differ, if there are two."""
+    if differing.one is not None and differing.other is not None:
+        shape = Shape(words.scale, words.aspect)
+        save_png(words.picture, differing.one, shape, differing.other)
+        print(words.picture)
 
 
 def _compare_writes(both: Sequence[Recording], stack: ExitStack) -> bool:
@@ -197,29 +221,20 @@ def _equal(count: int) -> str:
 
 
 def _compare_pictures(
-    shown: Sequence[Iterator[tuple[str, Optional[Picture]]]],
-    both: Sequence[Recording],
-    progress: Progress,
-) -> Optional[tuple[Optional[Picture], Optional[Picture]]]:
+    shown: Sequence[Iterator[ShownPicture]], both: Sequence[Recording], progress: Progress
+) -> Optional[DifferingPictures]:
     """Compares the pictures; the first two that differ, or None."""
     count = 0
     for pair in zip_longest(*shown):
         progress.clear()
-        one, other = (None if found is None else found[1] for found in pair)
+        one, other = (None if found is None else found.picture for found in pair)
         if None in pair or one != other:
             print(f"pictures: {_front(count)}picture {count + 1:,} differs")
             for found, recording in zip(pair, both):
-                print(f"  {recording.path}: {_told_picture(found)}")
+                print(f"  {recording.path}: {'no more' if found is None else found.line}")
             if one is not None and other is not None and one.size == other.size:
                 print(f"  {told_dots(one, other)}")
-            return one, other
+            return DifferingPictures(one, other)
         count += 1
     print(f"pictures: {_equal(count)}, and there are no more")
     return None
-
-
-def _told_picture(found: Optional[tuple[str, Optional[Picture]]]) -> str:
-    if found is None:
-        return "no more"
-    told, picture = found
-    return f"{'ragged' if picture is None else picture.size}, at {told}"

@@ -7,7 +7,7 @@ from collections import Counter
 from dataclasses import dataclass, field
 from functools import lru_cache
 from itertools import chain, islice
-from operator import itemgetter
+from operator import attrgetter
 from typing import BinaryIO, Callable, Iterable, Iterator, NamedTuple, Optional, Sequence, Union
 
 from zaklimot import format
@@ -25,7 +25,7 @@ from zaklimot.format.report import REFUSAL, SKIPPED, VALUE
 from zaklimot_tools.core.streams import counted
 from zaklimot_tools.core.trouble import Trouble
 from zaklimot_tools.explain.banks import (
-    ATTRIBUTE,
+    ATTRIBUTE_READ,
     COLOUR,
     DAC_PORTS,
     MONOCHROME,
@@ -78,7 +78,7 @@ CONTROLLERS = (COLOUR, MONOCHROME)
 # The CRT controller's registers of the start address, which a page flip writes.
 START_ADDRESS = (0x0C, 0x0D)
 # What gives the opcode of a step.
-OPCODE_OF: Callable[[TraceStep], int] = itemgetter(0)
+OPCODE_OF: Callable[[TraceStep], int] = attrgetter("opcode")
 # The steps that read a byte, and their answers.
 READING_BYTES, BYTES = (IN, GET), {f"{value:02X}" for value in range(256)}
 # How a step is answered that was done, and those that are answered so.
@@ -357,7 +357,8 @@ class _Ahead:
 
     def block(self, size: int) -> Repeated:
         """The group of this size that stands here, as often as it does, and passes it."""
-        group, codes = self.steps[self.at : self.at + size], self.codes[self.at : self.at + size]
+        group = self.steps[self.at : self.at + size]
+        codes = self.codes[self.at : self.at + size]
         times = 1
         last = group[-1]
         self.at += size
@@ -661,11 +662,11 @@ class Checking:
         for step in steps:
             answer = next(answers, None)
             # Most steps write, and are done.
-            if answer is not None and answer[2] == DONE and step[0] in DOING:
+            if answer is not None and answer.answer == DONE and step.opcode in DOING:
                 checked.steps += 1
             else:
                 self._take(step, answer, name)
-            if step[0] in PORTS:
+            if step.opcode in PORTS:
                 self._follow(step)
         if next(answers, None) is not None:
             raise Trouble(
@@ -677,8 +678,8 @@ class Checking:
     def _take(self, step: TraceStep, given: Optional[Answer], name: str) -> None:
         """Takes a step that reads, or one that was not done."""
         is_exact = self._has_time and step.dots is not None
-        if given is not None and step[0] in READING_BYTES and given[2] in BYTES:
-            self.checked.read(step, given[2], self._kind(step), is_exact)
+        if given is not None and step.opcode in READING_BYTES and given.answer in BYTES:
+            self.checked.read(step, given.answer, self._kind(step), is_exact)
             return
         answer = _judged(step, self.checked.steps + 1, given, name)
         self.checked.take(step, answer, self._kind(step), is_exact)
@@ -689,14 +690,13 @@ class Checking:
     def _kind(self, step: TraceStep) -> str:
         if step.call is not None:
             return f"{NAMES[step.opcode]} AH {step.call.registers[0] >> 8:02X}"
-        opcode, address = step[:2]
-        if opcode in PORTS:
-            return _kind_of(opcode, address, self._index(address))
-        return _kind_of(opcode, address >> WINDOW_BITS << WINDOW_BITS, -1)
+        if step.opcode in PORTS:
+            return _kind_of(step.opcode, step.address, self._index(step.address))
+        return _kind_of(step.opcode, step.address >> WINDOW_BITS << WINDOW_BITS, -1)
 
     def _index(self, port: int) -> int:
         """The number of the register that a port of data reaches; -1 of any other port."""
-        if port == ATTRIBUTE + 1:
+        if port == ATTRIBUTE_READ:
             return self._banks.attr.number
         if port - 1 not in INDEX_PORTS:
             return -1
@@ -711,13 +711,12 @@ class Checking:
         return f"{words}: {registers.why(words, answer.refusal) or answer.answer}"
 
     def _follow(self, step: TraceStep) -> None:
-        opcode, address, value = step[:3]
-        if opcode == OUT:
-            self._write(address, value)
-        elif opcode == OUTW:
-            self._write(address, value & 0xFF)
-            self._write(address + 1, value >> 8)
-        elif address == self._banks.controller + STATUS:
+        if step.opcode == OUT:
+            self._write(step.address, step.value)
+        elif step.opcode == OUTW:
+            self._write(step.address, step.value & 0xFF)
+            self._write(step.address + 1, step.value >> 8)
+        elif step.address == self._banks.controller + STATUS:
             self._banks.read_status()
 
     def _write(self, port: int, value: int) -> None:

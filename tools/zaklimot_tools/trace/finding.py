@@ -2,7 +2,7 @@
 
 import argparse
 from collections import Counter
-from typing import Iterable, Iterator, NamedTuple, Sequence, cast
+from typing import Iterable, Iterator, NamedTuple, Sequence
 
 from zaklimot import format
 from zaklimot.format import PLANE_BYTES, Answer
@@ -10,10 +10,11 @@ from zaklimot_tools.core.files import name_of
 from zaklimot_tools.core.progress import Progress
 from zaklimot_tools.core.trouble import AGREED, DIFFERED
 from zaklimot_tools.explain.banks import WINDOWS
+from zaklimot_tools.explain.raster import is_graphics
 from zaklimot_tools.explain.registers import Registers
 from zaklimot_tools.script.program import found_program
 
-from .cells import code_page, is_text, text_of
+from .cells import code_page, text_of
 from .moments import Steps
 from .step import FRAME, INT, PUT, PUTW, WRITES, TraceStep
 from .told import SHOWN_BYTES, Told
@@ -22,8 +23,7 @@ from .walking import Item, Question, Walk
 
 # Characters and attributes are in two planes, which are shown block by block.
 TEXT, BLOCKS = (0, 1), range(PLANE_BYTES // SHOWN_BYTES)
-WINDOW_BEGINS = sorted({first for first, _ in WINDOWS})
-IS_GRAPHICS = 1
+WINDOW_BEGINS = sorted({window.first for window in WINDOWS})
 
 
 class At(NamedTuple):
@@ -96,13 +96,13 @@ class Asking:
         self._blocks = set(BLOCKS)
         self._is_changed = False
 
-    def items(self) -> Iterator[Item]:
+    def items(self) -> Iterator[Item[At]]:
         """The steps of the trace, and the questions among them."""
         for step in self._steps.with_frames():
             if step.opcode != FRAME:
                 self._take(step)
                 yield step
-            elif self._is_changed and not self._registers.banks.gfx.registers[6] & IS_GRAPHICS:
+            elif self._is_changed and not is_graphics(self._registers.banks.gfx.registers):
                 yield from self._asked()
 
     def _take(self, step: TraceStep) -> None:
@@ -116,7 +116,7 @@ class Asking:
                 place = step.address - first
                 self._blocks.update((place >> 8 & 0xFF, place + 1 >> 8 & 0xFF))
 
-    def _asked(self) -> Iterator[Question]:
+    def _asked(self) -> Iterator[Question[At]]:
         planes = (
             (plane, block << 8, SHOWN_BYTES) for block in sorted(self._blocks) for plane in TEXT
         )
@@ -128,40 +128,42 @@ class Asking:
 
 
 def _screens(
-    answers: Iterator[tuple[object, Answer]], letters: str, name: str
+    answers: Iterator[tuple[At, Answer]], letters: str, name: str
 ) -> Iterator[tuple[Sequence[str], str]]:
     """The rows of each screen of text, and when it was looked at."""
     told = Told()
-    for tag, answer in answers:
+    for at, answer in answers:
         told.take(answer)
-        at = cast(At, tag)
-        if at.is_last and is_text(told.state):
+        if at.is_last and not is_graphics(told.state.gfx.registers):
             yield text_of(told.state, letters, name), at.told
 
 
 def find_text(words: argparse.Namespace, progress: Progress) -> int:
     """Tells when and where a trace shows a text; whether it does."""
-    letters = code_page(words.code_page)
-    walk = Walk(found_program(words.vga), words.fonts, progress)
-    finder = Finder(words.text, words.any_case)
     count = 0
-    with opened(words.trace) as trace:
-        answers = walk.answers(Asking(Steps(trace)).items())
-        for rows, told in _screens(answers, letters, name_of(words.trace)):
-            for found in sorted(finder.take(rows, told), key=lambda one: one[1:3]):
-                count += 1
-                if count == 1:
-                    progress.clear()
-                    print(" seconds  row  column  text")
-                if words.most is None or count <= words.most:
-                    progress.clear()
-                    print(_line(found), flush=True)
+    for count, found in enumerate(_all_found(words, progress), 1):
+        progress.clear()
+        if count == 1:
+            print(" seconds  row  column  text")
+        if words.most is None or count <= words.most:
+            print(_line(found), flush=True)
     progress.clear()
     if words.most is not None and count > words.most:
         print(f"{count - words.most:,} more")
     if not count:
         print(f"{name_of(words.trace)}: no screen of text shows it")
     return AGREED if count else DIFFERED
+
+
+def _all_found(words: argparse.Namespace, progress: Progress) -> Iterator[Found]:
+    """Each place of the text that words name, screen by screen, and from the top to the bottom."""
+    letters = code_page(words.code_page)
+    walk = Walk(found_program(words.vga), words.fonts, progress)
+    finder = Finder(words.text, words.any_case)
+    with opened(words.trace) as trace:
+        answers = walk.answers(Asking(Steps(trace)).items())
+        for rows, told in _screens(answers, letters, name_of(words.trace)):
+            yield from sorted(finder.take(rows, told), key=lambda one: (one.row, one.column))
 
 
 def _line(found: Found) -> str:

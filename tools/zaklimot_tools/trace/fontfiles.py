@@ -5,14 +5,12 @@ import struct
 from typing import Iterator, NamedTuple, Sequence
 
 from zaklimot_tools.core.trouble import Trouble
+from zaklimot_tools.explain.raster import character_maps, is_graphics, map_begin, row_scans
 
 from .state import State
 
 GLYPHS, GLYPH_BYTES, WIDTH = 256, 32, 8
-FONT_PLANE, MAPS, MAP_BYTES = 2, 8, 0x4000
-# The register of the sequencer that picks the maps, and that of the CRT controller that has the
-# last scan line.
-MAP_SELECT, MOST_SCAN = 3, 9
+FONT_PLANE = 2
 PSF = struct.Struct("<4sIIIIIII")
 UNKNOWN = "\ufffd"
 PSF_MAGIC, PSF_HAS_UNICODE, PSF_END = b"\x72\xb5\x4a\x86", 1, b"\xff"
@@ -31,14 +29,12 @@ class Font(NamedTuple):
 
 def usual_map(state: State) -> int:
     """The map of characters without attribute bit 3."""
-    select = state.seq.registers[MAP_SELECT]
-    return select & 3 | select >> 2 & 4
+    return character_maps(state.seq.registers).b
 
 
 def font_of(state: State, number: int, height: int, letters: str) -> Font:
     """The glyphs of a map, 0 to 7."""
-    # Maps 4 to 7 lie 8 KiB above the others.
-    begin = number % 4 * MAP_BYTES + number // 4 * (MAP_BYTES // 2)
+    begin = map_begin(number)
     words = state.memory.words
     glyphs = []
     for at in range(begin, begin + GLYPHS * GLYPH_BYTES, GLYPH_BYTES):
@@ -48,9 +44,9 @@ def font_of(state: State, number: int, height: int, letters: str) -> Font:
 
 def usual_height(state: State, name: str) -> int:
     """The lines of a character; a Trouble where graphics are shown, which have none."""
-    if state.gfx.registers[6] & 1:
+    if is_graphics(state.gfx.registers):
         raise Trouble("it shows graphics then, which have no glyphs: --height gives them one", name)
-    return (state.crtc.registers[MOST_SCAN] & 0x1F) + 1
+    return row_scans(state.crtc.registers)
 
 
 def psf_of(font: Font) -> bytes:

@@ -25,6 +25,14 @@ from zaklimot_tools.core.processes import Limits, run_command, said_last
 from zaklimot_tools.core.progress import Progress
 from zaklimot_tools.core.streams import reading, writing
 from zaklimot_tools.core.trouble import Trouble
+from zaklimot_tools.explain.raster import (
+    character_dots,
+    character_maps,
+    is_graphics,
+    last_line,
+    line_compare,
+    row_lines,
+)
 from zaklimot_tools.images.holding import held
 from zaklimot_tools.images.png import save_png
 from zaklimot_tools.images.reading import Image, image_bytes, image_of
@@ -99,7 +107,7 @@ class Screen:
     @property
     def is_text(self) -> bool:
         """Whether the screen is text."""
-        return not self.state.gfx.registers[6] & 1
+        return not is_graphics(self.state.gfx.registers)
 
     @property
     def cut(self) -> int:
@@ -180,25 +188,15 @@ def _has_blinking(screen: Screen) -> bool:
 
 def _is_ninth(screen: Screen) -> bool:
     """Whether all dots are ninth dots of characters whose line graphics go on into them."""
-    seq, attr = screen.state.seq.registers, screen.state.attr.registers
-    has_nine = screen.is_text and not seq[1] & 1 and attr[0x10] & 4
+    is_wide = character_dots(screen.state.seq.registers) == NINE
+    has_nine = screen.is_text and is_wide and screen.state.attr.registers[0x10] & 4
     is_last = all(x % NINE == NINE - 1 for x, _ in screen.dots)
     return bool(has_nine and screen.dots) and is_last
 
 
-def _line_compare(crtc: Sequence[int]) -> int:
-    return crtc[0x18] | (crtc[7] & 0x10) << 4 | (crtc[9] & 0x40) << 3
-
-
-def _row_lines(crtc: Sequence[int]) -> int:
-    """The lines of a row, each of them twice under double scan."""
-    return ((crtc[9] & 0x1F) + 1) << (crtc[9] >> 7)
-
-
 def _is_split(screen: Screen) -> bool:
     crtc = screen.state.crtc.registers
-    last = crtc[0x12] | (crtc[7] & 2) << 7 | (crtc[7] & 0x40) << 3
-    return screen.is_text and _line_compare(crtc) < last
+    return screen.is_text and line_compare(crtc) < last_line(crtc)
 
 
 def _has_underline(screen: Screen) -> bool:
@@ -209,9 +207,8 @@ def _has_underline(screen: Screen) -> bool:
 def _has_two_fonts(screen: Screen) -> bool:
     """Whether bit 3 of an attribute chooses between two fonts, and colour plane enable takes it off
     the colour."""
-    chosen = screen.state.seq.registers[3]
-    fonts = chosen >> 5 & 1 | chosen >> 1 & 6, chosen >> 4 & 1 | chosen << 1 & 6
-    return screen.is_text and fonts[0] != fonts[1] and not screen.state.attr.registers[0x12] & 8
+    maps = character_maps(screen.state.seq.registers)
+    return screen.is_text and maps.a != maps.b and not screen.state.attr.registers[0x12] & 8
 
 
 def _is_split_within_row(screen: Screen) -> bool:
@@ -223,8 +220,8 @@ def _is_split_within_row(screen: Screen) -> bool:
     picture = screen.part
     image = screen.held.image
     crtc = screen.state.crtc.registers
-    begin = _line_compare(crtc) + 1
-    lines = _row_lines(crtc)
+    begin = line_compare(crtc) + 1
+    lines = row_lines(crtc)
     had = begin % lines
     if screen.is_text or not had or image is None or any(y < begin for _, y in screen.dots):
         return False
@@ -237,10 +234,10 @@ def _is_split_within_row(screen: Screen) -> bool:
 def whole_rows(state: State, picture: Picture) -> Picture:
     """A picture of text without a last row that isn't whole; the picture itself if there is
     none."""
-    height = picture.height - picture.height % _row_lines(state.crtc.registers)
+    height = picture.height - picture.height % row_lines(state.crtc.registers)
     # Under double scan qemu counts other lines to a row.
     if (
-        state.gfx.registers[6] & 1
+        is_graphics(state.gfx.registers)
         or state.crtc.registers[9] & 0x80
         or height in (0, picture.height)
     ):
@@ -252,7 +249,7 @@ def narrow_cells(state: State, picture: Picture) -> Picture:
     """A picture of text without the ninth dots of its cells, where each dot is doubled; the picture
     itself if there are none."""
     clocking = state.seq.registers[1]
-    if state.gfx.registers[6] & 1 or clocking & 9 != 8 or picture.width % NINE:
+    if is_graphics(state.gfx.registers) or clocking & 9 != 8 or picture.width % NINE:
         return picture
     rows = (picture.row(y) for y in range(picture.height))
     dots = b"".join(row[at : at + 24] for row in rows for at in range(0, len(row), 3 * NINE))

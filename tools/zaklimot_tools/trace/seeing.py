@@ -5,9 +5,8 @@ import os
 from dataclasses import dataclass
 from functools import cached_property
 from math import prod
-from typing import Iterator, Optional, Sequence, cast
+from typing import Iterator, Optional, Sequence
 
-from zaklimot import format
 from zaklimot.format import Picture
 from zaklimot_tools.core.files import STANDARD, files, name_of
 from zaklimot_tools.core.progress import Progress
@@ -24,10 +23,9 @@ from .moments import Moment, Steps
 from .state import TAKEN, State
 from .step import FRAME, OUTW, TraceStep, advances
 from .trace import opened
-from .walking import Item, Question, Walk
+from .walking import FRAME_STEP, Item, Question, Walk
 
 LINES = {PLAIN: plain_lines, ANSI: ansi_lines, HTML: html_lines}
-FRAME_STEP = format.Step("frame", ())
 START_HIGH, START_LOW = TAKEN[1:]
 # So many frames lie between the pictures of two pages, of the 32 after which all blinks anew.
 PAUSE = 30
@@ -86,11 +84,11 @@ def _cycle_of_picture(walk: Walk, path: str, wanted: int) -> int:
                 last = answer.picture.sum
                 count += 1
                 if count == wanted:
-                    return cast(int, cycle)
+                    return cycle
     raise Trouble(f"it has {count} pictures, and no picture {wanted}", name_of(path))
 
 
-def _framed(steps: Steps) -> Iterator[Item]:
+def _framed(steps: Steps) -> Iterator[Item[int]]:
     """The steps of a trace, with questions for the pictures of their frames."""
     for step in steps.with_frames(is_drawn=True):
         if step.opcode == FRAME:
@@ -160,7 +158,7 @@ def _save_frames(
 ) -> None:
     """Writes a picture for each start address; that of the moment where it is none."""
 
-    def items() -> Iterator[Item]:
+    def items() -> Iterator[Item[str]]:
         yield from seen.steps()
         for name, start in zip(names, starts):
             # A start address is taken at a frame's first dot.
@@ -173,9 +171,9 @@ def _save_frames(
         if not isinstance(answer.picture, Picture):
             raise Trouble("the frame has no picture: its rows differ in width", seen.name)
         seen.progress.clear()
-        save_png(str(name), answer.picture, shape)
+        save_png(name, answer.picture, shape)
         if name != STANDARD:
-            write_name(str(name))
+            write_name(name)
 
 
 def _started(state: State, start: int) -> Iterator[TraceStep]:

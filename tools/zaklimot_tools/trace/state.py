@@ -13,6 +13,7 @@ from typing import Callable, Iterable, Iterator, Optional, Sequence, TypeVar
 from zaklimot.format import PLANE_BYTES
 from zaklimot_tools.explain.banks import (
     ATTRIBUTE,
+    ATTRIBUTE_READ,
     DAC_DATA,
     DAC_PORTS,
     DAC_WRITE,
@@ -20,6 +21,7 @@ from zaklimot_tools.explain.banks import (
     GRAPHICS,
     MASK,
     MISC,
+    MISC_READ,
     PROTECT,
     RETRACE_END,
     SEQUENCER,
@@ -33,7 +35,6 @@ from .step import ADVANCE, FRAME, GET, GETW, IN, INW, OUT, OUTW, PUT, PUTW, READ
 from .trace import ALL_PLANES
 
 
-ATTRIBUTE_READ, MISC_READ = 0x3C1, 0x3CC
 FIRST_ADDRESS, PLANES = 0xA0000, 4
 # A byte in each of the four bytes of a word, and words of which the bytes of some planes are FF.
 EACH = 0x01010101

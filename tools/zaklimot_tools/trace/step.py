@@ -130,16 +130,15 @@ def steps_of(cycles: Iterable[Cycle], apart: Sequence[int] = ()) -> Iterator[Tra
     held: Optional[TraceStep] = None
     for step in chain.from_iterable(map(_narrowed, count(1), cycles)):
         if held is not None:
-            is_next = step[0] == held[0] and step[1] == held[1] + 1
+            is_next = step.opcode == held.opcode and step.address == held.address + 1
             if is_next and step.dots is None and held.cycle not in apart:
-                yield TraceStep(
-                    step[0] + 1, held[1], held.value | step.value << 8, held.time, step.cycle
-                )
+                value = held.value | step.value << 8
+                yield TraceStep(step.opcode + 1, held.address, value, held.time, step.cycle)
                 held = None
                 continue
             yield held
             held = None
-        if step[0] in HALVES and not step[1] & 1:
+        if step.opcode in HALVES and not step.address & 1:
             held = step
         else:
             yield step

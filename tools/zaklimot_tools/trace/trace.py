@@ -43,7 +43,7 @@ CHUNK = 1 << 16
 GZIP = b"\x1f\x8b"
 # What each cycle of qemu's log has, of whatever device.
 EVENT = b"memory_region_ops_"
-QEMU = re.compile(
+QEMU_CYCLE = re.compile(
     rb"(?:\d+@(?P<time>\d+\.\d{6}):)?memory_region_ops_(?P<kind>read|write) cpu -?\d+ mr"
     rb" (?:0x[0-9a-f]+|\(nil\)) "
     rb"addr 0x(?P<address>[0-9a-f]+) value 0x(?P<value>[0-9a-f]+) size (?P<size>\d) name"
@@ -57,7 +57,7 @@ MOST_LIKE = 1 << 10
 MOST_KNOWN = 1 << 16
 # The time of the plain form: microseconds, and the dots since the line before where they are known.
 TIME = rb"\s*(?:-|(?P<time>[0-9]{1,18})(?:\+(?P<dots>[0-9]{1,12}))?)\s+"
-PLAIN = re.compile(
+PLAIN_CYCLE = re.compile(
     TIME + rb"(?P<kind>[rw])\s+(?P<place>[pm])\s+(?P<address>[0-9A-Fa-f]{1,8})\s+"
     rb"(?P<value>[0-9A-Fa-f]{1,16})\s+(?P<size>\d)\s*(?:;.*)?",
     re.DOTALL,
@@ -149,6 +149,15 @@ class Cycle(NamedTuple):
 _made_cycle = cast(Callable[[Iterable[object]], Cycle], partial(tuple.__new__, Cycle))
 
 
+class LineEnd(NamedTuple):
+    """What the end of a line of qemu's log says of its cycle: the space, how many bytes, and the
+    last address of the space."""
+
+    space: str
+    size: int
+    most: int
+
+
 class Trace:
     """The cycles of a trace that is read from a stream, and what was found of its lines and
     cycles."""
@@ -161,7 +170,9 @@ class Trace:
         self.line = 0
         # How many cycles came so far, and how many of them have no time; and how many polls were
         # folded while the trace was recorded, which are no cycles of it.
-        self.count = self.untimed = self.polls = 0
+        self.count = 0
+        self.untimed = 0
+        self.polls = 0
         # How many cycles stand before each screen that was taken; and the dots until then since the
         # line before, if known.
         self.screens: list[int] = []
@@ -169,7 +180,8 @@ class Trace:
         # Dots of screens since the last cycle; whether dots are told at all.
         self._dots = 0
         self.has_dots = False
-        self._damaged = self._first_damaged = 0
+        self._damaged = 0
+        self._first_damaged = 0
         # The first write, where that is not one of power-on; and the first that turned VBE on; 0 if
         # never.
         self._begins_late: Optional[int] = None
@@ -178,9 +190,9 @@ class Trace:
         self._is_vesa = False
         self._left_out = 0
         # How lines of qemu's log begin, up to the address, and whether these are writes; how they
-        # end, from the size on, and the space, the size and the last address of these.
+        # end, from the size on.
         self._heads: dict[bytes, bool] = {}
-        self._ends: dict[bytes, tuple[str, int, int]] = {}
+        self._ends: dict[bytes, LineEnd] = {}
         # The cycles of lines of ports, without their time; and how many bytes of lines came before
         # the first cycle.
         self._known: dict[bytes, Cycle] = {}
@@ -199,7 +211,8 @@ class Trace:
         self._is_chained = False
         # The cycle from which on chain 4 has had none of memory so far, and the first that ended
         # so; 0 if never.
-        self._silent = self._first_silent = 0
+        self._silent = 0
+        self._first_silent = 0
 
     def cycles(self, most: Optional[int] = None) -> Iterator[Cycle]:
         """The cycles in their order, so many at most; a Trouble where there is none, or the trace
@@ -237,9 +250,9 @@ class Trace:
             if cycle is None:
                 continue
             self.count += 1
-            if is_told or cycle[2] in WATCHED or cycle[4] > 2:
+            if is_told or cycle.address in WATCHED or cycle.size > 2:
                 self._watch(cycle)
-            if cycle[5] is None:
+            if cycle.time is None:
                 self.untimed += 1
             yield cycle
 
@@ -266,12 +279,14 @@ class Trace:
         head, _, rest = line.partition(b" addr 0x")
         address, _, rest = rest.partition(b" value 0x")
         value, _, end = rest.partition(b" size ")
-        is_write, known = self._heads.get(head), self._ends.get(end)
+        is_write = self._heads.get(head)
+        known = self._ends.get(end)
         if known is None or is_write is None or not (address.isalnum() and value.isalnum()):
             return None
         space, size, most = known
         try:
-            at, given = int(address, 16), int(value, 16)
+            at = int(address, 16)
+            given = int(value, 16)
         except ValueError:
             return None
         if at + size - 1 > most or given >> 8 * size or space == MEMORY and self._is_vesa:
@@ -314,7 +329,7 @@ class Trace:
         # A log has other lines too.
         if self._is_plain is None or not self._is_plain and EVENT not in line:
             return None
-        found = (PLAIN if self._is_plain else QEMU).fullmatch(line)
+        found = (PLAIN_CYCLE if self._is_plain else QEMU_CYCLE).fullmatch(line)
         if found is None:
             return self._other(line)
         time, kind, place, address, value, size = found.group(
@@ -347,7 +362,7 @@ class Trace:
         if is_plain and len(self._heads) < MOST_LIKE and len(self._ends) < MOST_LIKE:
             self._heads[head] = is_write
             most = MOST_ADDRESS if space == MEMORY else MOST_PORT
-            self._ends[line.rpartition(b" size ")[2]] = space, size, most
+            self._ends[line.rpartition(b" size ")[2]] = LineEnd(space, size, most)
 
     def _note(self, line: bytes) -> None:
         """Takes a line that `record` has put into qemu's log."""
@@ -407,7 +422,7 @@ class Trace:
     def _found_form(self, line: bytes) -> Optional[bool]:
         if EVENT in line:
             return False
-        if PLAIN.fullmatch(line) is None and PLAIN_CALL.fullmatch(line) is None:
+        if PLAIN_CYCLE.fullmatch(line) is None and PLAIN_CALL.fullmatch(line) is None:
             if self._first_other == 0 and PASSED.fullmatch(line) is None:
                 self._first_other = self.line
             return None
@@ -425,19 +440,19 @@ class Trace:
         self._is_told = self._begins_late is None or bool(self._silent) or self._is_vesa
 
     def _follow(self, cycle: Cycle) -> None:
-        space, address, size = cycle.space, cycle.address, cycle.size
+        space = cycle.space
         if space in (MEMORY, VESA):
             self._silent = 0
             self._left_out += space == VESA
         if not cycle.is_write:
             return
         if self._begins_late is None:
-            self._begins_late = 0 if address == MISC or space == CALL else self.count
+            self._begins_late = 0 if cycle.address == MISC or space == CALL else self.count
         if space == VBE:
-            self._write(address, cycle.value)
+            self._write(cycle.address, cycle.value)
         elif space == PORT:
-            for at in range(size):
-                self._write(address + at, cycle.value >> 8 * at & 0xFF)
+            for at in range(cycle.size):
+                self._write(cycle.address + at, cycle.value >> 8 * at & 0xFF)
 
     def _write(self, port: int, value: int) -> None:
         """Follows registers: under chain 4 with all planes an emulator may serve memory without

@@ -8,7 +8,7 @@ from dataclasses import dataclass, field
 from io import BufferedReader
 from pathlib import Path
 from tempfile import TemporaryDirectory
-from typing import BinaryIO, Iterable, Iterator, NamedTuple, Sequence, Union, cast
+from typing import BinaryIO, Generic, Iterable, Iterator, Optional, Sequence, TypeVar, Union, cast
 
 from zaklimot import format
 from zaklimot.format import HEADERS, MOST_BYTES, MOST_STEPS, Answer
@@ -22,26 +22,40 @@ from .rebuilding import rebuilt_as_told
 from .step import TraceStep
 from .told import Told, state_asked
 
+# What asks for the picture of a frame.
+FRAME_STEP = format.Step("frame", ())
 # A script has so many bytes and steps of a trace at most. What is left of those that it may have is
 # for the steps that rebuild a state at its begin, and those that ask for one at its end.
 ROOM = 1 << 21
 MOST_PART, MOST_PART_STEPS = MOST_BYTES - ROOM, MOST_STEPS - ROOM
 
 
-class Question(NamedTuple):
+Tag = TypeVar("Tag")
+
+
+@dataclass(frozen=True)
+class Question(Generic[Tag]):
     """A step whose answer is wanted, and what the answer is called by."""
 
     step: format.Step
-    tag: object
+    tag: Tag
 
 
-Item = Union[TraceStep, Question]
+Item = Union[TraceStep, Question[Tag]]
+
+
+@dataclass(frozen=True)
+class Asked(Generic[Tag]):
+    """A step of a script whose answer is wanted, by its number. It has no question if it asks for
+    the state at the script's end."""
+
+    number: int
+    question: Optional[Question[Tag]] = None
 
 
 @dataclass
-class ScriptPart:
-    """A script that is filled with items: its steps, and the numbers of its questions among
-    them.
+class ScriptPart(Generic[Tag]):
+    """A script that is filled with items: its steps, and those of them whose answers are wanted.
 
     `before` is how many of its steps rebuild a state; `size` has the bytes of the others.
     """
@@ -50,7 +64,7 @@ class ScriptPart:
     steps: int = 0
     before: int = 0
     size: int = 0
-    asked: list[tuple[int, object]] = field(default_factory=list)
+    asked: list[Asked[Tag]] = field(default_factory=list)
 
     @property
     def is_full(self) -> bool:
@@ -65,14 +79,21 @@ class ScriptPart:
         self.before = self.steps
         self.size = 0
 
-    def add(self, item: Item) -> None:
+    def add(self, item: Item[Tag]) -> None:
         """Writes an item."""
         self.steps += 1
         if isinstance(item, Question):
-            self.asked.append((self.steps, item.tag))
+            self.asked.append(Asked(self.steps, item))
             self._write(format.encoded(item.step))
         else:
             self._write(item.data())
+
+    def ask_state(self) -> None:
+        """Writes the steps that ask for the state."""
+        for step in state_asked():
+            self.steps += 1
+            self.asked.append(Asked(self.steps))
+            self._write(format.encoded(step))
 
     def _write(self, data: bytes) -> None:
         self.size += self.stream.write(data)
@@ -86,7 +107,7 @@ class Walk:
         self._fonts = fonts
         self._progress = progress
 
-    def answers(self, items: Iterable[Item]) -> Iterator[tuple[object, Answer]]:
+    def answers(self, items: Iterable[Item[Tag]]) -> Iterator[tuple[Tag, Answer]]:
         """The tags of the questions among the items, each with its answer."""
         rest = iter(items)
         before: Sequence[TraceStep] = ()
@@ -95,53 +116,52 @@ class Walk:
             while is_cut:
                 script = Path(name) / "script"
                 with writing(str(script)) as stream:
-                    part = ScriptPart(stream)
+                    part = ScriptPart[Tag](stream)
                     part.begin(before)
                     is_cut = self._fill(part, rest)
                 told = Told()
                 yield from self._run(script, part, told)
                 before = list(rebuilt_as_told(told)) if is_cut else ()
 
-    def state(self, items: Iterable[Item]) -> Told:
+    def state(self, items: Iterable[TraceStep]) -> Told:
         """What the adapter tells of itself after all steps."""
         told = Told()
         for _, answer in self.answers(_with_state(items)):
             told.take(answer)
         return told
 
-    def _fill(self, part: ScriptPart, rest: Iterator[Item]) -> bool:
+    def _fill(self, part: ScriptPart[Tag], rest: Iterator[Item[Tag]]) -> bool:
         """Fills a script; whether something is left, where the state is asked at its end."""
         for item in rest:
             part.add(item)
             if self._progress.is_due():
                 self._progress.tell(f"a script is made: {part.steps:,} steps")
             if part.is_full:
-                for step in state_asked():
-                    part.add(Question(step, Told))
+                part.ask_state()
                 return True
         return False
 
-    def _run(self, script: Path, part: ScriptPart, told: Told) -> Iterator[tuple[object, Answer]]:
+    def _run(self, script: Path, part: ScriptPart[Tag], told: Told) -> Iterator[tuple[Tag, Answer]]:
         """The answers of a script. Those that tell the state at its end are taken here."""
-        asked = iter(part.asked)
-        number, tag = next(asked, (0, None))
+        rest = iter(part.asked)
+        asked = next(rest, None)
         count = 0
         with BuiltProgram(self._program).running(script, self._fonts, None, True) as outcome:
             report = Report(cast(BufferedReader, outcome.report), "report", self._progress)
             for answer in report.steps():
                 count = answer.number
-                if count != number:
+                if asked is None or count != asked.number:
                     continue
-                if tag is Told:
+                if asked.question is None:
                     told.take(answer)
                 else:
-                    yield tag, answer
-                number, tag = next(asked, (0, None))
+                    yield asked.question.tag, answer
+                asked = next(rest, None)
         if outcome.status or count != part.steps:
             ended = f"it ended with status {outcome.status}"
             raise Trouble(f"{ended} after {count:,} steps: {fault_of(outcome)}", self._program)
 
 
-def _with_state(items: Iterable[Item]) -> Iterator[Item]:
+def _with_state(items: Iterable[TraceStep]) -> Iterator[Item[None]]:
     yield from items
     yield from (Question(step, None) for step in state_asked())

@@ -14,21 +14,17 @@ from zaklimot_tools.images.words import add_shape
 from zaklimot_tools.script.words import add_program
 
 from .asked import CLOCK, END, FIRST, FLIP, KEEP, QUIET, SCREENS, SPEEDS, USUAL_SPEED, Deed
-from .seeing_words import add_seeing
+from .seeing_words import MOST_CYCLES, TRACE, add_seeing
 
 
 CONVERTING = "tools/vga-trace convert examples/typed-line.trace script.bin"
-MOST_CYCLES, MOST_KINDS = 1 << 40, 1 << 20
+MOST_KINDS = 1 << 20
 # What jobs of the command line are functions of.
 _job = partial(later, "zaklimot_tools.trace.command")
 
 
 def _add_trace(parser: argparse.ArgumentParser) -> None:
-    told = (
-        "qemu's log or lines of the plain form, also compressed by gzip, or the folder of a"
-        " recording; - is standard input"
-    )
-    add(parser, "TRACE", told, type=Input)
+    add(parser, "TRACE", TRACE, type=Input)
     numbers = {"type": number_to(MOST_CYCLES)}
     add(parser, "--to N", "takes only the first N cycles (default: all)", **numbers)
     told = "begins with the Nth cycle (default: 1)"

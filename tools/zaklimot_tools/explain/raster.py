@@ -1,0 +1,111 @@
+"""What registers say of a frame and of text: its lines and rows, where bytes are fetched, and where
+glyphs stand.
+
+docs/RASTER.md and docs/REGISTERS.md have the rules. Registers come as sequences, by their numbers:
+`crtc` those of the CRT controller, `seq` of the sequencer, `gfx` of the graphics controller.
+"""
+
+from typing import NamedTuple, Sequence
+
+# Registers of the CRT controller.
+TOTAL, SHOWN_CHARACTERS, LINES, OVERFLOW, PRESET_SCAN, MOST_SCAN = 0x00, 0x01, 0x06, 0x07, 8, 9
+START_HIGH, START_LOW, RETRACE_START, LAST_LINE, OFFSET = 0x0C, 0x0D, 0x10, 0x12, 0x13
+UNDERLINE, MODE_CONTROL, LINE_COMPARE = 0x14, 0x17, 0x18
+# Bits of maximum scan line, underline location and mode control.
+DOUBLE_SCAN, DOUBLE_WORD, WRAPS_AT_15, BYTE_MODE = 0x80, 0x40, 0x20, 0x40
+# Registers of the sequencer and of the graphics controller.
+CLOCKING, MAP_SELECT, MISCELLANEOUS = 1, 3, 6
+# Counters, and offsets in a plane, have 16 bits.
+COUNTER = 0xFFFF
+# The bytes of plane 2 from a character map to the next of the first four; the others lie half as
+# far above these.
+MAP_BYTES = 0x4000
+
+
+def is_graphics(gfx: Sequence[int]) -> bool:
+    """Whether graphics are shown, and not text."""
+    return bool(gfx[MISCELLANEOUS] & 1)
+
+
+def character_dots(seq: Sequence[int]) -> int:
+    """How many dots a character has, 8 or 9."""
+    return 8 if seq[CLOCKING] & 1 else 9
+
+
+def line_characters(crtc: Sequence[int]) -> int:
+    """How many characters a line has, those that aren't displayed among them."""
+    return crtc[TOTAL] + 5
+
+
+def frame_lines(crtc: Sequence[int]) -> int:
+    """How many lines a frame has, those that aren't displayed among them."""
+    bits = crtc[OVERFLOW]
+    return crtc[LINES] + ((bits & 0x01) << 8) + ((bits & 0x20) << 4) + 2
+
+
+def last_line(crtc: Sequence[int]) -> int:
+    """The last line that is displayed, if the frame has so many."""
+    bits = crtc[OVERFLOW]
+    return crtc[LAST_LINE] | (bits & 0x02) << 7 | (bits & 0x40) << 3
+
+
+def retrace_start(crtc: Sequence[int]) -> int:
+    """The line in which vertical retrace begins."""
+    bits = crtc[OVERFLOW]
+    return crtc[RETRACE_START] | (bits & 0x04) << 6 | (bits & 0x80) << 2
+
+
+def line_compare(crtc: Sequence[int]) -> int:
+    """The line after which memory is shown from its beginning on."""
+    return crtc[LINE_COMPARE] | (crtc[OVERFLOW] & 0x10) << 4 | (crtc[MOST_SCAN] & 0x40) << 3
+
+
+def row_scans(crtc: Sequence[int]) -> int:
+    """How many scan lines a row has."""
+    return (crtc[MOST_SCAN] & 0x1F) + 1
+
+
+def row_lines(crtc: Sequence[int]) -> int:
+    """How many lines of a frame a row has: each scan line is two of them under double scan."""
+    return row_scans(crtc) << (crtc[MOST_SCAN] >> 7)
+
+
+def start_address(crtc: Sequence[int]) -> int:
+    """The counter of the first character, without byte panning."""
+    return crtc[START_HIGH] << 8 | crtc[START_LOW]
+
+
+def first_counter(crtc: Sequence[int]) -> int:
+    """The counter of the first character, with byte panning."""
+    return start_address(crtc) + (crtc[PRESET_SCAN] >> 5 & 3) & COUNTER
+
+
+def fetch_address(crtc: Sequence[int], counter: int) -> int:
+    """The offset in each plane at which the bytes of a counter are fetched."""
+    if crtc[UNDERLINE] & DOUBLE_WORD:
+        return 4 * counter & COUNTER
+    if crtc[MODE_CONTROL] & BYTE_MODE:
+        return counter
+    wrapped = counter >> (15 if crtc[MODE_CONTROL] & WRAPS_AT_15 else 13) & 1
+    return 2 * counter & COUNTER | wrapped
+
+
+class CharacterMaps(NamedTuple):
+    """The numbers of the two character maps, 0 to 7: that of characters with attribute bit 3, and
+    that of the others."""
+
+    a: int
+    b: int
+
+
+def character_maps(seq: Sequence[int]) -> CharacterMaps:
+    """The maps that character map select chooses."""
+    select = seq[MAP_SELECT]
+    return CharacterMaps(
+        (select >> 5 & 1) << 2 | select >> 2 & 3, (select >> 4 & 1) << 2 | select & 3
+    )
+
+
+def map_begin(number: int) -> int:
+    """The offset in plane 2 at which a character map begins."""
+    return (number & 3) * MAP_BYTES + (number >> 2) * (MAP_BYTES // 2)
