@@ -8,7 +8,6 @@ import shutil
 import subprocess
 import unittest
 from pathlib import Path
-from typing import Any
 from unittest import mock
 
 from zaklimot.format import Answer, Step

@@ -4,6 +4,7 @@ with it."""
 import ctypes
 import math
 import os
+import shlex
 import shutil
 import signal
 import subprocess
@@ -374,6 +375,17 @@ def _has_ended(process: subprocess.Popen[bytes]) -> bool:
     if not hasattr(os, "waitid"):
         return process.poll() is not None
     return os.waitid(os.P_PID, process.pid, os.WEXITED | os.WNOWAIT | os.WNOHANG) is not None
+
+
+def command_words(text: str) -> list[str]:
+    """The words of a command that a user gives as one word of the shell."""
+    try:
+        words = shlex.split(text)
+    except ValueError as error:
+        raise Trouble(f"the command '{text}': {error}") from error
+    if not words:
+        raise Trouble("the command is empty")
+    return words
 
 
 class Failed(Trouble):

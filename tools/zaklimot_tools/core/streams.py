@@ -73,19 +73,21 @@ def empty_folder(path: str) -> Path:
 def bytes_of(path: Union[str, Path], most: int) -> bytes:
     """The bytes of a file of many, which may not have more than so many."""
     with open(path, "rb") as stream:
-        data = stream.read(most + 1)
-    if len(data) > most:
-        raise Trouble(f"it has more than {most:,} bytes", str(path))
-    return data
+        return _taken(stream, most, str(path))
 
 
 def read_at_most(path: str, most: int, told: str = "") -> bytes:
     """The bytes of a file, which may not have more than so many; else a Trouble, whose reason may
     be given."""
     with reading(path, is_drained=False) as stream:
-        data = stream.read(most + 1)
+        return _taken(stream, most, name_of(path), told)
+
+
+def _taken(stream: BinaryIO, most: int, name: str, told: str = "") -> bytes:
+    """All bytes of a stream, which may not have more than so many."""
+    data = stream.read(most + 1)
     if len(data) > most:
-        raise Trouble(told or f"it has more than {most:,} bytes", name_of(path))
+        raise Trouble(told or f"it has more than {most:,} bytes", name)
     return data
 
 
@@ -154,7 +156,12 @@ def write_over(path: str, data: bytes, was: bytes) -> None:
 
 def filled(path: Path, **parts: str) -> str:
     """The text of a file, with these parts in the places that have their names, as `@NAME@`."""
-    return PLACE.sub(lambda place: parts[place[1]], path.read_text("ascii"))
+    return with_parts(path.read_text("ascii"), **parts)
+
+
+def with_parts(text: str, **parts: str) -> str:
+    """A text with these parts in the places that have their names."""
+    return PLACE.sub(lambda place: parts[place[1]], text)
 
 
 def length_of(stream: BinaryIO) -> int:
@@ -177,15 +184,18 @@ def write_name(path: Union[str, Path]) -> None:
     sys.stdout.buffer.write(os.fsencode(path) + b"\n")
 
 
-class JsonList:
-    """A JSON object that is written as it comes: its first members, then a list with a line for
-    each entry, and members behind it."""
+def json_in_page(value: object) -> str:
+    """JSON for an element of a page. No character of it ends the element, or begins another."""
+    return json.dumps(value, separators=(",", ":")).replace("<", "\\u003c")
 
-    def __init__(self, stream: BinaryIO, name: str, front: Mapping[str, object]) -> None:
+
+class JsonArray:
+    """A JSON array that is written as it comes, with a line for each entry."""
+
+    def __init__(self, stream: BinaryIO) -> None:
         self._stream = stream
         self._count = 0
-        # The list takes the place of the bracket that closes the object.
-        self._write(f"{json.dumps({**front, name: []})[:-2]}")
+        self._write("[")
 
     def _write(self, text: str) -> None:
         self._stream.write(text.encode("ascii"))
@@ -200,9 +210,26 @@ class JsonList:
         self.begin_entry()
         self._write(json.dumps(entry))
 
-    def end(self, behind: Mapping[str, object]) -> None:
+    def end(self) -> None:
+        """Ends the array."""
+        self._write("\n]")
+
+
+class JsonList(JsonArray):
+    """A JSON object that is written as it comes: its first members, then a list with a line for
+    each entry, and members behind it."""
+
+    def __init__(self, stream: BinaryIO, name: str, front: Mapping[str, object]) -> None:
+        members = (f"{json.dumps(key)}: {json.dumps(value)}, " for key, value in front.items())
+        stream.write(f"{{{''.join(members)}{json.dumps(name)}: ".encode("ascii"))
+        super().__init__(stream)
+
+    def end_with(self, behind: Mapping[str, object]) -> None:
         """Ends the list and the object, with these members behind the list."""
-        self._write("\n]" + (", " + json.dumps(behind)[1:] if behind else "}"))
+        self.end()
+        for key, value in behind.items():
+            self._write(f", {json.dumps(key)}: {json.dumps(value)}")
+        self._write("}")
 
 
 def counted(count: int, what: str) -> str:

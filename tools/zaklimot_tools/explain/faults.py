@@ -103,7 +103,12 @@ def _font_size(data: bytes) -> str:
         )
     elif data.startswith(MAGIC):
         hint = "; it is a script of bytes"
-    return f"the font file has {count} bytes, and {FONT_BYTES:,} are right{hint}"
+    return wrong_font_bytes(count) + hint
+
+
+def wrong_font_bytes(count: str) -> str:
+    """What is told of a font file of so many bytes, which are too few or too many."""
+    return f"the font file has {count} bytes, and {FONT_BYTES:,} are right"
 
 
 def _read(path: str) -> tuple[bytes, Optional[str]]:

@@ -35,7 +35,7 @@ def opened(module: Any, data: bytes, name: str) -> Any:
             warnings.simplefilter("ignore", module.DecompressionBombWarning)
             return module.open(io.BytesIO(data), formats=formats)
     except (OSError, ValueError, SyntaxError, module.DecompressionBombError) as error:
-        raise Trouble(f"pillow can't read it: {told(error)}", name) from error
+        raise _unread(error, name) from error
 
 
 def size_of(image: Any) -> tuple[int, int]:
@@ -61,7 +61,7 @@ def rows_of(image: Any, name: str, ground: Optional[bytes] = None) -> tuple[byte
         made = made.convert("RGB")
         dots = made.tobytes()
     except (OSError, ValueError, SyntaxError, EOFError) as error:
-        raise Trouble(f"pillow can't read it: {told(error)}", name) from error
+        raise _unread(error, name) from error
     step = 3 * made.size[0]
     return tuple(dots[at : at + step] for at in range(0, len(dots), step))
 
@@ -74,7 +74,7 @@ def dark_on_white(image: Any, widths: Sequence[int], name: str) -> Iterator[byte
     try:
         grey = ImageOps.grayscale(ImageOps.exif_transpose(image).convert("RGB"))
     except (OSError, ValueError, SyntaxError, EOFError) as error:
-        raise Trouble(f"pillow can't read it: {told(error)}", name) from error
+        raise _unread(error, name) from error
     for width in widths:
         sized = grey.resize((width, max(1, grey.height * width // grey.width)))
         with io.BytesIO() as stream:
@@ -82,6 +82,7 @@ def dark_on_white(image: Any, widths: Sequence[int], name: str) -> Iterator[byte
             yield stream.getvalue()
 
 
-def told(error: Exception) -> str:
-    """What an error of Pillow's says, without the stream that it names."""
-    return str(error).partition(" <_io")[0] or type(error).__name__
+def _unread(error: Exception, name: str) -> Trouble:
+    """What ends the work at an error of Pillow's, without the stream that it names."""
+    told = str(error).partition(" <_io")[0] or type(error).__name__
+    return Trouble(f"pillow can't read it: {told}", name)

@@ -176,6 +176,17 @@ def _steps_of(digits: Optional[str], name: str, number: int) -> Optional[int]:
     return steps
 
 
+def _found_case(line: str, name: str, number: int) -> re.Match[str]:
+    """The parts of a line that names a case; a Trouble where it names none of the list's folder."""
+    found = CASE.fullmatch(line.strip())
+    if found is None:
+        raise Trouble(f"no case: '{line[:40]}'", name, number)
+    place = Path(found["name"])
+    if ".." in place.parts or place.is_absolute():
+        raise Trouble(f"a case outside the list's folder: '{found['name'][:40]}'", name, number)
+    return found
+
+
 def read_cases(path: str) -> list[Case]:
     """The cases of a list, but for those whose expected report is wrong on purpose."""
     folder = (Path(".") if path == STANDARD else Path(path).parent).absolute()
@@ -183,9 +194,8 @@ def read_cases(path: str) -> list[Case]:
     fonts: Optional[Path] = None
     front: Optional[Path] = None
     cases = []
-    for number, line in enumerate(
-        read_at_most(path, MOST_BYTES).decode("utf-8", "replace").splitlines(), 1
-    ):
+    lines = read_at_most(path, MOST_BYTES).decode("utf-8", "replace").splitlines()
+    for number, line in enumerate(lines, 1):
         if "\0" in line:
             raise Trouble("the line has a byte 00, and no name of a file has one", name, number)
         word, _, rest = line.strip().partition(" ")
@@ -196,15 +206,8 @@ def read_cases(path: str) -> list[Case]:
         elif word == "front":
             front = None if rest == "none" else folder / rest
         else:
-            found = CASE.fullmatch(line.strip())
-            if found is None:
-                raise Trouble(f"no case: '{line[:40]}'", name, number)
-            if ".." in Path(found["name"]).parts or Path(found["name"]).is_absolute():
-                raise Trouble(
-                    f"a case outside the list's folder: '{found['name'][:40]}'", name, number
-                )
+            found = _found_case(line, name, number)
             until = _steps_of(found["steps"], name, number)
-            cases.append(
-                Case(found["name"], folder, fonts, front, until, found["bytes"] is not None)
-            )
+            is_bytes = found["bytes"] is not None
+            cases.append(Case(found["name"], folder, fonts, front, until, is_bytes))
     return cases

@@ -14,8 +14,9 @@ from urllib.parse import quote
 from zaklimot.format import FONT_BYTES, MOST_BYTES, is_bytes
 from zaklimot_tools import TOP
 from zaklimot_tools.core.files import STANDARD
-from zaklimot_tools.core.streams import read_at_most
+from zaklimot_tools.core.streams import json_in_page, read_at_most
 from zaklimot_tools.core.trouble import Trouble
+from zaklimot_tools.explain.faults import wrong_font_bytes
 
 
 PAGE = TOP / "page" / "zaklimot.html"
@@ -27,9 +28,8 @@ MOST_PAGE = 1 << 24
 
 
 def data_element(data: dict[str, Any]) -> str:
-    """The element of a page that holds its data. No character of them ends it, or begins
-    another."""
-    return BEGIN + json.dumps(data, separators=(",", ":")).replace("<", "\\u003c") + END
+    """The element of a page that holds its data."""
+    return BEGIN + json_in_page(data) + END
 
 
 def page_data(page: str) -> dict[str, Any]:
@@ -66,7 +66,7 @@ def debug_page(name: str, script: bytes, fonts: str, page: str) -> bytes:
     data = page_data(text)
     font = read_at_most(fonts, MOST_BYTES)
     if len(font) != FONT_BYTES:
-        raise Trouble(f"the font file has {len(font):,} bytes, and {FONT_BYTES:,} are right", fonts)
+        raise Trouble(wrong_font_bytes(f"{len(font):,}"), fonts)
     in_base64 = base64.b64encode(font).decode("ascii")
     in_text = script.decode("utf-8", "replace")
     # A byte that is no text is wrong in a step, and means nothing in a comment.

@@ -16,7 +16,15 @@ from zaklimot_tools.core.cli import ended_by, say
 from zaklimot_tools.core.files import STANDARD, name_of
 from zaklimot_tools.core.processes import end_all, in_parallel
 from zaklimot_tools.core.progress import Progress
-from zaklimot_tools.core.streams import counted, refuse_input, teller, to_read, write_file, writing
+from zaklimot_tools.core.streams import (
+    JsonArray,
+    counted,
+    refuse_input,
+    teller,
+    to_read,
+    write_file,
+    writing,
+)
 from zaklimot_tools.core.trouble import AGREED, DIFFERED, TROUBLE, Trouble
 
 from .cases import printable
@@ -125,14 +133,16 @@ def _write_json(path: str, ran: list[Ran]) -> None:
     """Writes what the scripts told as one list. One that was not even begun has its trouble
     alone."""
     with writing(path) as stream:
-        for number, one in enumerate(ran):
-            stream.write(b",\n" if number else b"[\n")
+        scripts = JsonArray(stream)
+        for one in ran:
+            scripts.begin_entry()
             assert one.json is not None
             if not one.json.stat().st_size:
                 stream.write(b"null")
             with open(one.json, "rb") as told:
                 shutil.copyfileobj(told, stream)
-        stream.write(b"\n]\n")
+        scripts.end()
+        stream.write(b"\n")
 
 
 def _junit_text(name: str, ran: list[Ran]) -> str:

@@ -81,11 +81,11 @@ class Row(NamedTuple):
     @property
     def is_wrong(self) -> bool:
         """Whether another answer was expected."""
-        step, expected = self.step, self.expected
+        expected = self.expected
         if expected is None:
-            return self.is_strict and step.is_refused
-        is_other = bool(self.dump) and expected != ANY and self.dump != step.lines
-        return is_other or not is_as_expected(step, expected, self.words)
+            return self.is_strict and self.step.is_refused
+        is_other = bool(self.dump) and expected != ANY and self.dump != self.step.lines
+        return is_other or not is_as_expected(self.step, expected, self.words)
 
     def mismatch(self) -> str:
         """What an answer is in the place of the one that was expected."""
@@ -272,7 +272,8 @@ def _wait_for(report: BinaryIO, shown: str, progress: Progress) -> None:
 def listed(row: Row, is_wrong: bool, width: int, more: str = "", why: str = "") -> str:
     """A step in the listing, and below it why it was refused: lines that end with a newline
     each."""
-    step, words = row.step, row.words
+    step = row.step
+    words = row.words
     if len(words) > width:
         words = words[: width - 2] + ".."
     place = "" if row.line is None else row.line
@@ -311,7 +312,8 @@ class Tally:
 
     def count(self, row: Row) -> bool:
         """Counts a step, and tells whether another answer was expected."""
-        step, expected = row.step, row.expected
+        step = row.step
+        expected = row.expected
         self.steps += 1
         if self._json is not None:
             self._json.add(_told(row))
@@ -336,7 +338,7 @@ class Tally:
         """Ends the JSON, with the trouble of a run that isn't whole."""
         if self._json is not None:
             counts = {name: getattr(self, name) for name in COUNTS}
-            self._json.end({**counts, "trouble": None if trouble is None else str(trouble)})
+            self._json.end_with({**counts, "trouble": None if trouble is None else str(trouble)})
 
     def differing(self) -> Iterator[str]:
         """The answers that differ, a line each."""
@@ -398,6 +400,13 @@ class ChangedLine(NamedTuple):
     after: str
 
 
+class BlessedAnswer(NamedTuple):
+    """What the step of a line answered: on one line, and the lines of a dump of several."""
+
+    line: str
+    dump: tuple[str, ...] = ()
+
+
 class Blessing:
     """The answers that a script is to expect: those that were not met, and, if all are wanted,
     those of other steps."""
@@ -405,9 +414,8 @@ class Blessing:
     def __init__(self, data: bytes, is_all: bool) -> None:
         self._lines = text_of(data).split("\n")
         self._is_all = is_all
-        # What each line's step answered: on one line, and the lines of a dump of several; and which
-        # lines change.
-        self._answers: dict[int, tuple[str, tuple[str, ...]]] = {}
+        # What each line's step answered, and which lines change.
+        self._answers: dict[int, BlessedAnswer] = {}
         self._changed: set[int] = set()
 
     def take(self, row: Row) -> None:
@@ -418,20 +426,21 @@ class Blessing:
             row.expected is not None or is_worth_telling(row.step, row.words)
         ):
             return
-        answered = answer_of(row.step), row.step.lines if row.step.others else ()
+        dump = row.step.lines if row.step.others else ()
+        answered = BlessedAnswer(answer_of(row.step), dump)
         if self._answers.setdefault(number, answered) != answered:
-            self._answers[number] = ANY, ()
+            self._answers[number] = BlessedAnswer(ANY)
         if row.is_wrong or self._is_all and row.expected is None:
             self._changed.add(number)
 
     def changes(self) -> Iterator[ChangedLine]:
         """The lines whose expectations change."""
-        for number, (answer, _) in self._answers.items():
+        for number, answered in self._answers.items():
             if number in self._changed:
                 before = expected_in(
                     self._lines[number - 1].partition(";")[2].encode("utf-8", "surrogateescape")
                 )
-                yield ChangedLine(number, before or "", answer)
+                yield ChangedLine(number, before or "", answered.line)
 
     def text(self) -> str:
         """The script with the answers in it."""
@@ -442,9 +451,9 @@ class Blessing:
                 is_dropped = False
                 lines.append(line)
             if number in self._changed:
-                answer, dump = self._answers[number]
-                lines[-1] = _blessed(line, answer)
-                lines += [f"{DUMPED} {part}" for part in dump]
+                answered = self._answers[number]
+                lines[-1] = _blessed(line, answered.line)
+                lines += [f"{DUMPED} {part}" for part in answered.dump]
                 is_dropped = True
         return "\n".join(lines)
 

@@ -2,13 +2,12 @@
 
 import base64
 import io
-import json
 from html import escape
 from pathlib import Path
-from typing import Optional, Sequence
+from typing import NamedTuple, Optional, Sequence
 
 from zaklimot.format import Picture
-from zaklimot_tools.core.streams import filled
+from zaklimot_tools.core.streams import filled, json_in_page
 from zaklimot_tools.core.trouble import Trouble
 from zaklimot_tools.images.png import write_png
 
@@ -22,6 +21,15 @@ POLICY = "default-src 'none'; img-src data:; style-src 'unsafe-inline'; script-s
 SIZES = "".join(f'<option value="{size}">\u00d7{size}</option>' for size in (1, 2, 3, 4))
 
 
+class PageFrame(NamedTuple):
+    """What the slider comes to: the step, how it is called, and the images by their names. The
+    page's script knows them by these names."""
+
+    step: int
+    title: str
+    images: list[str]
+
+
 class Page:
     """A page that is filled row by row."""
 
@@ -29,8 +37,7 @@ class Page:
         self._captions = captions
         self._columns = columns
         self._rows: list[str] = []
-        # What the slider comes to: the step, how it is called, and the images by their names.
-        self._frames: list[dict[str, object]] = []
+        self._frames: list[PageFrame] = []
         self._images = 0
 
     def _image(self, picture: Picture, other: Optional[Picture] = None) -> tuple[str, str]:
@@ -55,7 +62,7 @@ class Page:
             images = [self._image(pictures[0]), self._image(pictures[1]), self._image(*pictures)]
             title = f"{difference.place}: {dots}"
             names = [name for name, _ in images]
-            self._frames.append({"step": difference.number, "title": title, "images": names})
+            self._frames.append(PageFrame(difference.number, title, names))
             texts = [f"{text}{image}" for text, (_, image) in zip(texts, images)]
             dots += images[2][1]
         if len(self._rows) == MOST_ROWS:
@@ -65,7 +72,7 @@ class Page:
 
     def text(self, title: str, said: str) -> str:
         """The whole page."""
-        frames = json.dumps(self._frames).replace("<", "\\u003c")
+        frames = json_in_page([frame._asdict() for frame in self._frames])
         captions = (f"<figcaption>{escape(caption)}</figcaption>" for caption in self._captions)
         figures = "".join(f"<figure><canvas></canvas>{caption}</figure>" for caption in captions)
         heads = "".join(f"<th>{escape(column)}</th>" for column in self._columns)

@@ -4,7 +4,7 @@ import argparse
 import os
 import sys
 from contextlib import contextmanager
-from typing import Callable, Iterator, Optional, Sequence
+from typing import Callable, Iterator, Optional, Sequence, Union
 
 from zaklimot.format import MOST_ADVANCE, Answer, Digest, Picture
 from zaklimot_tools.core.files import STANDARD, files, name_of
@@ -65,30 +65,55 @@ def wanted_pictures(
         raise Trouble(f"step {min(missing)} has no picture; there are {last} steps", name)
 
 
+class _Stills:
+    """Pictures that are written as files, each as it comes."""
+
+    def __init__(self, words: argparse.Namespace) -> None:
+        self._words = words
+        self._shape = Shape(words.scale, words.aspect)
+        if words.folder != STANDARD:
+            files().make_folder(words.folder)
+
+    def take(self, number: int, picture: Picture) -> None:
+        """Takes the picture of a step."""
+        _write_picture(self._words, f"{number:04}", picture, self._shape)
+
+    def end(self) -> None:
+        """Ends the work: all is written."""
+
+
+class _Moving:
+    """Pictures that become one that moves."""
+
+    def __init__(self, words: argparse.Namespace) -> None:
+        self._path = words.apng
+        self._animation = Animation(Shape(words.scale, words.aspect))
+        self._delay = delays_of(words.script)
+
+    def take(self, number: int, picture: Picture) -> None:
+        """Takes the picture of a step."""
+        self._animation.add(picture, self._delay(number), f"step {number}")
+
+    def end(self) -> None:
+        """Writes the picture that moves."""
+        made = self._animation
+        with writing(self._path) as output:
+            made.write(output)
+        if self._path != STANDARD:
+            write(f"{self._path}: {len(made.frames)} frames, {made.seconds:.3f} seconds\n")
+
+
 def pictures(words: argparse.Namespace, progress: Progress) -> int:
     """Writes the pictures of a report as files."""
-    shape = Shape(words.scale, words.aspect)
-    animation = Animation(shape)
     name = name_of(words.report)
+    output: Union[_Stills, _Moving] = _Stills(words) if words.apng is None else _Moving(words)
     count = 0
-    delays = delays_of(None if words.apng is None else words.script)
-    if words.folder not in (None, STANDARD):
-        files().make_folder(words.folder)
     with _steps(words.report, progress) as steps:
         for count, (number, picture) in enumerate(wanted_pictures(steps, words.step, name), 1):
-            if words.apng is None:
-                _write_picture(words, f"{number:04}", picture, shape)
-            else:
-                animation.add(picture, delays(number), f"step {number}")
+            output.take(number, picture)
     if not count:
         raise Trouble("no step has a picture", name)
-    if words.apng is not None:
-        with writing(words.apng) as output:
-            animation.write(output)
-        if words.apng != STANDARD:
-            write(
-                f"{words.apng}: {len(animation.frames)} frames, {animation.seconds:.3f} seconds\n"
-            )
+    output.end()
     return AGREED
 
 

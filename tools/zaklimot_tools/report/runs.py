@@ -137,12 +137,14 @@ def _watched(words: argparse.Namespace, progress: Progress) -> NoReturn:
             sys.stdout.flush()
             say(f"vga-report: {trouble}\n")
         sys.stdout.flush()
-        while (now := _changes(words)) == before:
-            time.sleep(LOOK)
-        changed = next(
-            file for file in {**now, **before} if now.get(file, 0) != before.get(file, 0)
-        )
-        write(f"{changed} has changed\n")
+        write(f"{_changed(words, before)} has changed\n")
+
+
+def _changed(words: argparse.Namespace, before: dict[str, Optional[int]]) -> str:
+    """Waits until a file is otherwise than before; its name."""
+    while (now := _changes(words)) == before:
+        time.sleep(LOOK)
+    return next(file for file in {**now, **before} if now.get(file, 0) != before.get(file, 0))
 
 
 def _changes(words: argparse.Namespace) -> dict[str, Optional[int]]:

@@ -4,17 +4,16 @@
 import argparse
 import io
 import re
-import shlex
 import tempfile
 from contextlib import suppress
 from dataclasses import dataclass, field
 from pathlib import Path
 from threading import Event
-from typing import BinaryIO, Iterator, Optional, Sequence
+from typing import BinaryIO, Iterator, NamedTuple, Optional, Sequence
 
 from zaklimot.format import FAULT, MOST_BYTES, Answer, Picture
 from zaklimot_tools.core.files import STANDARD, name_of
-from zaklimot_tools.core.processes import Limits, in_parallel, run_command
+from zaklimot_tools.core.processes import Limits, command_words, in_parallel, run_command
 from zaklimot_tools.core.progress import Progress
 from zaklimot_tools.core.streams import (
     bytes_of,
@@ -49,6 +48,15 @@ NO_ANSWERS = "all that it asks is a picture, a dump, a refusal or a fault of the
 SHOWN_LINES = 10
 
 
+class FirstDifference(NamedTuple):
+    """The step that differs first, by its number, 0 where a fault stands in the place of steps; and
+    both answers. The names are those of the JSON."""
+
+    step: int
+    answered: str
+    expected: str
+
+
 @dataclass
 class Result:
     """What came of a case: its answer, why it doesn't agree, the step that differs first, and what
@@ -58,8 +66,7 @@ class Result:
     rule: str
     answer: str = AGREES
     reason: str = ""
-    # For machines: its number, 0 where a fault stands in the place of steps, and both answers.
-    first: dict[str, object] = field(default_factory=dict)
+    first: Optional[FirstDifference] = None
     comparison: Comparison = field(default_factory=Comparison)
 
     def told(self) -> dict[str, object]:
@@ -73,7 +80,7 @@ class Result:
             "rule": self.rule,
             "answer": self.answer,
             **counts,
-            **self.first,
+            **(self.first._asdict() if self.first is not None else {}),
         }
         return {**told, "reason": self.reason} if self.answer != AGREES else told
 
@@ -86,12 +93,7 @@ class Command:
     """A command with places for a case's files."""
 
     def __init__(self, text: str) -> None:
-        try:
-            self._words = shlex.split(text)
-        except ValueError as error:
-            raise Trouble(f"the command '{text}': {error}") from error
-        if not self._words:
-            raise Trouble("the command is empty")
+        self._words = command_words(text)
         if not any("{script}" in word or "{name}" in word for word in self._words):
             raise Trouble(f"the command '{text}' has neither {{script}} nor {{name}}")
         self.can_stop = UNTIL in self._words
@@ -241,24 +243,19 @@ def _compare(result: Result, report: io.BufferedReader) -> None:
             Report(report, REPORT_NAME).steps(), result.case.expected_steps()
         ):
             # The first is told, and the others are counted.
-            if not result.first:
-                answered, expected = difference.answers()
-                result.first = {
-                    "step": difference.number,
-                    "answered": answered,
-                    "expected": expected,
-                }
+            if result.first is None:
+                result.first = FirstDifference(difference.number, *difference.answers())
                 place = result.case.place_of(difference.number)
                 result.answer = DIFFERS
                 result.reason = difference.told() + (f" ({place})" if place else "")
     except Trouble as trouble:
         if trouble.name != REPORT_NAME:
             raise
-        if not result.first:
+        if result.first is None:
             result.answer = FAILED
             result.reason = str(trouble)
             return
-    if not result.first and comparison.skipped:
+    if result.first is None and comparison.skipped:
         result.answer = SKIPPED
         result.reason = (
             f"{comparison.skipped} of {comparison.steps} steps are skipped, the others agree"
@@ -371,6 +368,6 @@ def _write_json(stream: BinaryIO, command: str, groups: Rules, results: list[Res
         cases = JsonList(stream, "cases", {"rule": rule, "folder": group, "answer": _worst(some)})
         for result in some:
             cases.add(result.told())
-        cases.end({})
-    rules.end({})
+        cases.end_with({})
+    rules.end_with({})
     stream.write(b"\n")

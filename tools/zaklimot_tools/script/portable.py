@@ -104,7 +104,7 @@ def portable_library() -> str:
 
 def _compiled(product: Product) -> str:
     compiler = _compiler()
-    folder = _cache()
+    folder = cache_folder()
     path = folder / _digest(compiler, product) / product.name
     if not os.access(path, os.X_OK):
         try:
@@ -134,7 +134,8 @@ def _compiler() -> list[str]:
     return found
 
 
-def _cache() -> Path:
+def cache_folder() -> Path:
+    """The folder of the user's cache for what the tools make or fetch once."""
     named = os.environ.get("XDG_CACHE_HOME", "")
     try:
         # A path that is not absolute means nothing there.

@@ -54,6 +54,12 @@ def fault_of(run: Streamed) -> str:
     return found[0] if found else (run.said.strip().splitlines() or [""])[-1]
 
 
+def check_ended(run: Streamed, program: str) -> None:
+    """Ends the work where a run has ended badly."""
+    if run.status:
+        raise Trouble(f"it ended with status {run.status}: {fault_of(run)}", program)
+
+
 def _in_path() -> Optional[str]:
     """The program `vga` of the path, but for this repository's own command of that name."""
     for folder in os.environ.get("PATH", os.defpath).split(os.pathsep):

@@ -1,7 +1,6 @@
 """An adapter as a command that answers elements, line by line."""
 
 import json
-import shlex
 import subprocess
 import tempfile
 import threading
@@ -9,7 +8,7 @@ import time
 from contextlib import contextmanager, suppress
 from typing import BinaryIO, Iterator, Optional, cast
 
-from zaklimot_tools.core.processes import end, started
+from zaklimot_tools.core.processes import command_words, end, started
 from zaklimot_tools.core.trouble import Trouble
 
 from .parts import ANSWER, FINAL, REFUSED, Element
@@ -66,7 +65,8 @@ class AskedAdapter:
 
     def _exchanged(self, line: bytes) -> bytes:
         """The line that comes after this one; an empty one where the command has ended."""
-        sent, answers = self._process.stdin, self._process.stdout
+        sent = self._process.stdin
+        answers = self._process.stdout
         assert sent is not None and answers is not None
         # One that has ended may have answered before.
         with suppress(OSError):
@@ -94,12 +94,7 @@ def _shown(line: bytes) -> str:
 @contextmanager
 def asked_adapter(command: str, seconds: float) -> Iterator[AskedAdapter]:
     """A command that answers elements, of whose processes none is left afterwards."""
-    try:
-        words = shlex.split(command)
-    except ValueError as error:
-        raise Trouble(f"the command '{command}': {error}") from error
-    if not words:
-        raise Trouble("the command is empty")
+    words = command_words(command)
     pipe = subprocess.PIPE
     with tempfile.TemporaryFile() as file:
         said = cast(BinaryIO, file)

@@ -12,7 +12,7 @@ from zaklimot_tools.core.processes import streaming
 from zaklimot_tools.core.progress import Progress
 from zaklimot_tools.core.streams import counted, write
 from zaklimot_tools.core.trouble import AGREED, DIFFERED, Trouble
-from zaklimot_tools.script.program import fault_of, found_program
+from zaklimot_tools.script.program import check_ended, found_program
 
 from .children import in_children, is_shared
 from .comparing import differences
@@ -87,8 +87,7 @@ def _found(element: Element, script: Path, program: str, fonts: str) -> list[str
     script.write_bytes(encode(confirmed.script))
     with streaming([program, "run", str(script), "--fonts", fonts]) as outcome:
         report = outcome.report.read(MOST_REPORT)
-    if outcome.status:
-        raise Trouble(f"it ends with status {outcome.status}: {fault_of(outcome)}", program)
+    check_ended(outcome, program)
     try:
         return list(differences(element, confirmed.read(report)))
     except (ReportError, ValueError, IndexError, KeyError) as error:

@@ -10,7 +10,7 @@ from typing import Any, BinaryIO, ContextManager, Iterable, Iterator, Optional, 
 from zaklimot.format import FORMS, MOST_BLOCK, REFUSALS, Step
 from zaklimot.format.table import READ_BYTE, READ_WORD
 from zaklimot_tools.core.files import name_of
-from zaklimot_tools.core.streams import reading, writing
+from zaklimot_tools.core.streams import JsonArray, reading, writing
 from zaklimot_tools.core.trouble import Trouble
 
 from .parts import (
@@ -37,7 +37,6 @@ from .parts import (
 MOST_LINE = 1 << 22
 # How gzip files begin; and how hard they are packed.
 GZIP, LEVEL = b"\x1f\x8b", 9
-FIRST, LAST = b"[\n", b"]\n"
 # The steps that an element may have; and the parts of a call.
 STEPS = ("out", "outw", "in", "inw", "put", "putw", "get", "getw", "advance", "int", LINE)
 REGISTERS = ("ax", "bx", "cx", "dx")
@@ -54,11 +53,13 @@ def write_elements(path: str, elements: Iterable[Element]) -> int:
     count = 0
     with writing(path) as stream:
         with _packed(stream) if path.endswith(".gz") else nullcontext(stream) as target:
-            target.write(FIRST)
+            array = JsonArray(target)
             for element in elements:
-                target.write((b",\n" if count else b"") + text_of(element).encode("ascii"))
+                array.begin_entry()
+                target.write(text_of(element).encode("ascii"))
                 count += 1
-            target.write(b"\n" + LAST if count else LAST)
+            array.end()
+            target.write(b"\n")
     return count
 
 
@@ -244,7 +245,8 @@ def _are_dots(answer: object) -> bool:
     """Whether something is the dots of a line: colours, and as many entries."""
     if not isinstance(answer, dict) or answer.keys() != {"colours", "entries"}:
         return False
-    colours, entries = answer["colours"], answer["entries"]
+    colours = answer["colours"]
+    entries = answer["entries"]
     are_lists = _are_numbers(colours, 0x3FFFF) and isinstance(entries, list)
     known = are_lists and all(one == -1 or _is_number(one, 0xFF) for one in entries)
     return known and len(colours) == len(entries)

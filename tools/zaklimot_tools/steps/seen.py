@@ -52,7 +52,7 @@ class SeenElement:
     @property
     def window(self) -> MemoryWindow:
         """The window in which memory answers."""
-        return WINDOWS[self.gfx[6] >> 2]
+        return WINDOWS[int(self.gfx[6]) >> 2]
 
     @property
     def place(self) -> int:

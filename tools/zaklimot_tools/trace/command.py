@@ -5,13 +5,13 @@ import sys
 from itertools import islice
 from pathlib import Path
 from tempfile import TemporaryDirectory
-from typing import ContextManager, Iterator, Optional, Union
+from typing import ContextManager, Iterator, Optional, Sequence, Union
 
 from zaklimot.format import Picture
-from zaklimot_tools.core.files import STANDARD, check_folder, files, name_of
+from zaklimot_tools.core.files import check_folder, files, name_of
 from zaklimot_tools.core.processes import check_program
 from zaklimot_tools.core.progress import Progress
-from zaklimot_tools.core.streams import reading, write_name, writing
+from zaklimot_tools.core.streams import reading, teller, write_name, writing
 from zaklimot_tools.core.trouble import AGREED, DIFFERED, Trouble
 from zaklimot_tools.images.png import Animation, Shape, save_png
 from zaklimot_tools.report.report import Report
@@ -22,7 +22,7 @@ from .asked import BEAM, CLOCK, KEEP, Deed
 from .converting import Listing, check, convert, count
 from .monitor import QEMU
 from .container import keep, unpacked
-from .judging import Judging, judge_kept
+from .judging import Judging, judge_kept, warn
 from .note import NOTE, Note, note_of
 from .recording import PRECISE, QemuMachine, Say, chain_4, check_keys, record
 from .replaying import shown
@@ -44,18 +44,13 @@ def _opened(words: argparse.Namespace) -> ContextManager[Trace]:
     return opened(words.trace, is_whole=words.to is None)
 
 
-def _warn(lacking: Union[Listing, Trace], name: str) -> None:
-    for line in lacking.warnings():
-        print(f"vga-trace: warning: {name}: {line}", file=sys.stderr)
-
-
 def convert_trace(words: argparse.Namespace, _: Progress) -> None:
     """Makes a script of a trace."""
     with _opened(words) as trace, writing(words.script) as stream:
         listing = _listing(trace, words)
         written = convert(listing, stream, words.text, words.repeat)
-    _warn(listing, name_of(words.trace))
-    print(written.line(listing), file=sys.stderr if words.script == STANDARD else sys.stdout)
+    warn(listing, name_of(words.trace))
+    teller(words.script)(f"{written.line(listing)}\n")
 
 
 def check_report(words: argparse.Namespace, _: Progress) -> int:
@@ -64,7 +59,7 @@ def check_report(words: argparse.Namespace, _: Progress) -> int:
     with _opened(words) as trace, reading(words.report) as stream:
         listing = _listing(trace, words)
         checked = check(listing.steps(), Report(stream, name).steps(), name, words.time)
-    _warn(listing, name_of(words.trace))
+    warn(listing, name_of(words.trace))
     print("\n".join(checked.lines(words.most)))
     return AGREED if checked.agrees else DIFFERED
 
@@ -75,7 +70,7 @@ def count_kinds(words: argparse.Namespace, _: Progress) -> None:
         found = count(islice(trace.cycles(words.to), words.from_ - 1, None))
         if trace.polls:
             found["read port 3DA or 3BA, folded"] = trace.polls
-    _warn(trace, name_of(words.trace))
+    warn(trace, name_of(words.trace))
     print("\n".join(f"{number:12,} {kind}" for kind, number in found.most_common()))
 
 
@@ -99,7 +94,7 @@ def make_pictures(words: argparse.Namespace, _: Progress) -> None:
                 longest=words.longest,
             )
             convert(listing, stream)
-        _warn(listing, name_of(words.trace))
+        warn(listing, name_of(words.trace))
         largest = _write_stills(words.folder, shape, shown(program, words.fonts, script, 0))
         if words.apng is not None or words.video is not None:
             pictures = shown(program, words.fonts, script, words.longest)
@@ -139,69 +134,116 @@ def _moving(animation: Animation, pictures: Iterator[tuple[Picture, float]]) -> 
 
 def _write_moving(words: argparse.Namespace, animation: Animation) -> None:
     """Writes pictures that move, as APNG and as a video."""
-    output = sys.stderr if words.apng == STANDARD else sys.stdout
+    tell = teller(words.apng)
     told = f"{len(animation.frames)} pictures, {animation.seconds:.3f} seconds"
     if words.apng is not None:
         with writing(words.apng) as stream:
             animation.write(stream)
-        print(f"{words.apng}: {told}", file=output)
+        tell(f"{words.apng}: {told}\n")
     if words.video is not None:
         write_video(words.video, animation)
-        print(f"{words.video}: {told}", file=output)
+        tell(f"{words.video}: {told}\n")
 
 
 def record_software(words: argparse.Namespace, progress: Progress) -> int:
     """Records software, replays what was recorded, and compares the screens of both."""
     folder = Path(words.folder)
-    is_kept = words.again and folder.is_file()
-    if not is_kept:
-        check_folder(words.folder)
-    if not words.again and folder.exists() and any(folder.iterdir()):
+    if words.again:
+        return _judged_again(words, folder, progress)
+    check_folder(words.folder)
+    if folder.exists() and any(folder.iterdir()):
         again = ", or --again to judge it once more" if (folder / NOTE).exists() else ""
         raise Trouble(f"it has files: name a new folder{again}", words.folder)
+    judging = _judging(words, progress)
+    return judging.judge(_recorded(words, folder, progress), folder)
+
+
+def _judging(words: argparse.Namespace, progress: Progress) -> Judging:
     program = found_program(words.vga)
     check_program_runs(program, words.fonts)
-    judging = Judging(program, words.fonts, progress)
+    return Judging(program, words.fonts, progress)
 
-    def say(text: str) -> None:
-        progress.clear()
-        print(f"vga-trace: {text}", file=sys.stderr)
 
-    if is_kept:
+def _judged_again(words: argparse.Namespace, folder: Path, progress: Progress) -> int:
+    """Judges what a folder has, or what was kept in a file; the exit status."""
+    if folder.is_file():
+        judging = _judging(words, progress)
         with unpacked(words.folder) as made:
             return judge_kept(judging, made, words.folder)
-    note = note_of(folder) if words.again else _recorded(words, folder, say, progress)
-    return judging.judge(note, folder)
+    check_folder(words.folder)
+    judging = _judging(words, progress)
+    return judging.judge(note_of(folder), folder)
 
 
 def keep_recording(words: argparse.Namespace, _: Progress) -> None:
     """Keeps a recording in one file."""
     size = keep(Path(words.folder), words.output)
-    told = sys.stderr if words.output == STANDARD else sys.stdout
-    print(f"{words.output}: {size:,} bytes", file=told)
+    teller(words.output)(f"{words.output}: {size:,} bytes\n")
 
 
-def _recorded(words: argparse.Namespace, folder: Path, say: Say, progress: Progress) -> Note:
-    """Records into a folder, which is gone again where nothing was; the note of the recording."""
-    # A screen is taken at the end at least.
-    deeds = words.deeds if words.deeds and not words.deeds[-1].keys else [*words.deeds, Deed()]
-    if words.in_page is None:
+class _OnQemu:
+    """A recording on qemu, as words ask for it."""
+
+    def __init__(self, words: argparse.Namespace, deeds: Sequence[Deed]) -> None:
+        self._words = words
+        self._deeds = deeds
+
+    def check(self) -> None:
+        """Ends the work, before it begins, where qemu or one of its keys is lacking."""
         check_program(QEMU)
-        check_keys(deeds)
-    else:
-        inpage.check_keys(deeds)
-    folder.mkdir(parents=True, exist_ok=True)
-    try:
+        check_keys(self._deeds)
+
+    def record(self, folder: Path, say: Say, progress: Progress) -> Note:
+        """Records into a folder; the note."""
+        words = self._words
         with TemporaryDirectory(prefix="vga-trace-") as made:
-            if words.in_page is not None:
-                options = words.speed, words.rom, words.start
-                own = inpage.PageMachine(words.in_page, deeds, words.quiet, words.seconds, *options)
-                return inpage.record(own, folder, say, progress)
             plugin = chain_4(Path(made)) if words.chain_4 else []
             beam = PRECISE if words.beam else ()
             line = [*beam, "-device", words.card or "VGA", *plugin, *words.qemu]
-            machine = QemuMachine(line, deeds, words.quiet, words.seconds, words.polls or KEEP)
+            polls = words.polls or KEEP
+            machine = QemuMachine(line, self._deeds, words.quiet, words.seconds, polls)
             return record(machine, folder, say, progress)
+
+
+class _InPage:
+    """A recording on the page's machine, as words ask for it."""
+
+    def __init__(self, words: argparse.Namespace, deeds: Sequence[Deed]) -> None:
+        self._deeds = deeds
+        self._machine = inpage.PageMachine(
+            words.in_page,
+            deeds,
+            words.quiet,
+            words.seconds,
+            speed=words.speed,
+            rom=words.rom,
+            chosen=words.start,
+        )
+
+    def check(self) -> None:
+        """Ends the work, before it begins, where the machine lacks a key."""
+        inpage.check_keys(self._deeds)
+
+    def record(self, folder: Path, say: Say, progress: Progress) -> Note:
+        """Records into a folder; the note."""
+        return inpage.record(self._machine, folder, say, progress)
+
+
+def _recorded(words: argparse.Namespace, folder: Path, progress: Progress) -> Note:
+    """Records into a folder, which is gone again where nothing was; the note of the recording."""
+    # A screen is taken at the end at least.
+    deeds = words.deeds if words.deeds and not words.deeds[-1].keys else [*words.deeds, Deed()]
+    kind: type[Union[_OnQemu, _InPage]] = _OnQemu if words.in_page is None else _InPage
+    recorder = kind(words, deeds)
+    recorder.check()
+
+    def say(text: str) -> None:
+        progress.clear()
+        print(f"vga-trace: {text}", file=sys.stderr)
+
+    folder.mkdir(parents=True, exist_ok=True)
+    try:
+        return recorder.record(folder, say, progress)
     except BaseException:
         if (folder / NOTE).exists():
             say(

@@ -83,6 +83,7 @@ OPCODE_OF: Callable[[TraceStep], int] = attrgetter("opcode")
 READING_BYTES, BYTES = (IN, GET), {f"{value:02X}" for value in range(256)}
 # How a step is answered that was done, and those that are answered so.
 DONE, DOING = "ok", (OUT, OUTW, PUT, PUTW, ADVANCE)
+OTHER_SCRIPT = "it is of another script"
 # Windows of memory, by the 32 KiB that they have, and the bits of an address in one.
 WINDOW_BITS = 15
 WINDOWS = {0x14: "A0000", 0x15: "A0000", 0x16: "B0000", 0x17: "B8000"}
@@ -614,7 +615,7 @@ def _judged(step: TraceStep, number: int, answer: Optional[Answer], name: str) -
     step."""
     if answer is None:
         raise Trouble(
-            f"it ends before step {number:,}, `{NAMES[step.opcode]}`: it is of another script", name
+            f"it ends before step {number:,}, `{NAMES[step.opcode]}`: {OTHER_SCRIPT}", name
         )
     is_any = answer.kind == REFUSAL or answer.answer == SKIPPED
     # A report that is kept as text has no pictures.
@@ -626,7 +627,7 @@ def _judged(step: TraceStep, number: int, answer: Optional[Answer], name: str) -
     ):
         reason = (
             f"step {number:,} is `{NAMES[step.opcode]}`, and '{answer.answer[:40]}' answers none:"
-            " it is of another script"
+            f" {OTHER_SCRIPT}"
         )
         raise Trouble(reason, name, answer.line)
     return answer
@@ -670,8 +671,7 @@ class Checking:
                 self._follow(step)
         if next(answers, None) is not None:
             raise Trouble(
-                f"it has more than the {self.checked.steps:,} steps of the trace: it is of another"
-                " script",
+                f"it has more than the {self.checked.steps:,} steps of the trace: {OTHER_SCRIPT}",
                 name,
             )
 

@@ -10,13 +10,13 @@ from io import BufferedReader
 from itertools import chain, islice
 from math import prod
 from pathlib import Path
-from typing import Iterator, Optional, cast
+from typing import BinaryIO, Iterator, Optional, cast
 
 from zaklimot import format
 from zaklimot_tools.core.progress import Progress
 from zaklimot_tools.core.trouble import Trouble
 from zaklimot_tools.report.report import Report
-from zaklimot_tools.script.program import BuiltProgram, fault_of
+from zaklimot_tools.script.program import BuiltProgram, check_ended
 
 from .converting import Repeated, Rows, Written, folded
 from .step import ADVANCE, FRAME, TraceStep
@@ -24,6 +24,7 @@ from .told import STATE_STEPS, Told, state_asked
 
 # So many bytes and steps of a script are kept free for the rest of the frame at its end.
 REST_OF_FRAME = 1 << 20
+NOT_REBUILT = "the state before its first cycle isn't rebuilt"
 # So often an end is looked for: registers may change how long the frame lasts.
 TRIES = 8
 
@@ -65,16 +66,10 @@ class Cutting:
         written.spare = 0
         for _ in range(TRIES):
             ended.told = self._told(script)
-            beam, shape = ended.told.state.beam, ended.told.state.shape
-            if beam.is_at_begin or not written.fits:
+            if ended.told.state.beam.is_at_begin or not written.fits:
                 break
             with open(script, "ab") as stream:
-                for step in _up_to_end(ended, steps, prod(shape) - beam.drawn(shape)):
-                    ended.steps.append(step)
-                    stream.write(written.row(Repeated([step], [step.data()], 1, step.cycle)))
-                    written.last_cycle = step.cycle or written.last_cycle
-                    if not written.fits:
-                        break
+                _add_up_to_end(ended, steps, written, stream)
         return ended, Rows(folded(chain(ended.left, steps), TraceStep.data))
 
     def check_rebuilt(self, script: Path, before: int, told: Told) -> None:
@@ -87,7 +82,7 @@ class Cutting:
         # Amid a frame the beam has counters that are those of the frame's begin.
         wanted = {name: told.shown[name] for name in found.shown if name != "beam"}
         if found.state.beam.place != told.state.beam.place or wanted.items() > found.shown.items():
-            raise Trouble("the state before its first cycle isn't rebuilt", str(script))
+            raise Trouble(NOT_REBUILT, str(script))
 
     def _told(self, script: Path) -> Told:
         """What the adapter is after a script."""
@@ -110,10 +105,21 @@ class Cutting:
         with BuiltProgram(self._program).running(script, self._fonts, until, True) as outcome:
             stream = cast(BufferedReader, outcome.report)
             yield from Report(stream, "report", self._progress).steps()
-        if outcome.status:
-            raise Trouble(
-                f"it ended with status {outcome.status}: {fault_of(outcome)}", self._program
-            )
+        check_ended(outcome, self._program)
+
+
+def _add_up_to_end(
+    ended: ScriptEnd, steps: Iterator[TraceStep], written: Written, stream: BinaryIO
+) -> None:
+    """Writes the steps up to the end of the frame under way, as many as the script may have."""
+    shape = ended.told.state.shape
+    left = prod(shape) - ended.told.state.beam.drawn(shape)
+    for step in _up_to_end(ended, steps, left):
+        ended.steps.append(step)
+        stream.write(written.row(Repeated([step], [step.data()], 1, step.cycle)))
+        written.last_cycle = step.cycle or written.last_cycle
+        if not written.fits:
+            return
 
 
 def _going_on(ended: ScriptEnd, steps: Iterator[TraceStep]) -> Iterator[TraceStep]:

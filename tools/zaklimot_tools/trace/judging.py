@@ -4,15 +4,17 @@ kept, held against the one before."""
 import sys
 from dataclasses import dataclass
 from pathlib import Path
-from typing import Iterator, Optional, Sequence
+from typing import Iterator, Optional, Sequence, Union
 
 from zaklimot_tools.core.progress import Progress
 from zaklimot_tools.core.streams import bytes_of, counted, write_file
 from zaklimot_tools.core.trouble import AGREED, DIFFERED
 from zaklimot_tools.images.reading import MOST_BYTES, Image, image_of
 
+from .converting import Listing
 from .note import VERDICT, Note, note_of, told_of_beam
 from .replaying import Replay, Screen, replay
+from .trace import Trace
 
 # So many kinds of refusals, of reads and of differing reads are told of a recording.
 MOST_TOLD = 10
@@ -42,6 +44,12 @@ class Verdict:
                 yield f"{front}: here no frame has the shape of a picture"
             else:
                 yield from screen.lines(front)
+
+
+def warn(lacking: Union[Listing, Trace], name: str) -> None:
+    """Tells what a trace lacks, once its steps have passed."""
+    for line in lacking.warnings():
+        print(f"vga-trace: warning: {name}: {line}", file=sys.stderr)
 
 
 @dataclass(frozen=True)
@@ -77,8 +85,7 @@ class Judging:
     @staticmethod
     def tell(found: Verdict, folder: Path) -> None:
         """Tells a verdict, and what the trace lacks."""
-        for line in found.done.listing.warnings():
-            print(f"vga-trace: warning: {folder}: {line}", file=sys.stderr)
+        warn(found.done.listing, str(folder))
         print("\n".join(found.lines(folder)))
 
     @staticmethod

@@ -9,7 +9,7 @@ from typing import BinaryIO, Optional
 from zaklimot_tools.core.processes import DRAINING
 
 from .folding import Folding
-from .parts import Parts
+from .parts import Parts, not_kept
 
 # So many bytes are kept, as they are packed; those of the last screen have as much room again.
 MOST_KEPT = 1 << 30
@@ -80,7 +80,7 @@ class Keeper(Thread):
                 self.full = f"its trace has {MOST_KEPT:,} bytes, as they are packed"
                 self.is_lost = self._parts.kept >= 2 * MOST_KEPT
         except OSError as error:
-            self.full = f"its trace can't be kept: {error.strerror or error}"
+            self.full = not_kept(error)
             self.is_lost = True
 
     def _folded(self, chunk: bytes) -> bytes:

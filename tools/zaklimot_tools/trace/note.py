@@ -12,7 +12,7 @@ from typing import Any, Iterable, Iterator, Optional, Sequence
 from zaklimot_tools.core.streams import bytes_of, write_file
 from zaklimot_tools.core.trouble import Trouble
 
-from .parts import Parts
+from .parts import Parts, not_kept
 
 # The files of a recording that tell how it was made, and how it was judged.
 NOTE, VERDICT = "recording.json", "verdict.txt"
@@ -91,7 +91,7 @@ def kept_parts(folder: Path, note: Note) -> Iterator[Parts]:
         try:
             parts.close()
         except OSError as error:
-            note.ended = f"its trace can't be kept: {error.strerror or error}"
+            note.ended = not_kept(error)
         if parts.has_lines or note.screens:
             note.write(folder)
         else:

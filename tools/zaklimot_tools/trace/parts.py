@@ -15,6 +15,11 @@ PART_LINES = 1 << 28
 LEVEL = 6
 
 
+def not_kept(error: OSError) -> str:
+    """What is told of a trace that can't be written on."""
+    return f"its trace can't be kept: {error.strerror or error}"
+
+
 def part(folder: Path, number: int) -> Path:
     """The file of a part, counted from 1."""
     return folder / (TRACE if number == 1 else f"trace-{number:04}.gz")

@@ -38,11 +38,11 @@ from zaklimot_tools.images.png import save_png
 from zaklimot_tools.images.reading import Image, image_bytes, image_of
 from zaklimot_tools.report.report import Report
 from zaklimot_tools.report.reports import delays_of
-from zaklimot_tools.script.program import BuiltProgram, fault_of
+from zaklimot_tools.script.program import BuiltProgram, check_ended
 
 from .asked import SCREENS
 from .converting import Checked, Checking, Listing, Rows, Written, folded
-from .cutting import REST_OF_FRAME, Cutting, ScriptEnd
+from .cutting import NOT_REBUILT, REST_OF_FRAME, Cutting, ScriptEnd
 from .rebuilding import rebuilt_as_told
 from .recording import PHASES, dump
 from .state import State, rebuilt
@@ -410,7 +410,7 @@ def _check_rebuilding(steps: Sequence[TraceStep], answers: Iterator[Answer], nam
     checking.take(steps, answers, name)
     if not checking.checked.agrees:
         told = "\n".join(checking.checked.lines(1))
-        raise Trouble(f"the state before its first cycle isn't rebuilt:\n{told}", name)
+        raise Trouble(f"{NOT_REBUILT}:\n{told}", name)
 
 
 class _Scripts:
@@ -512,8 +512,7 @@ def shown(
                 seconds = 0.0
             last = answer.picture
             seconds = seconds + delay(answer.number)
-    if outcome.status:
-        raise Trouble(f"it ended with status {outcome.status}: {fault_of(outcome)}", program)
+    check_ended(outcome, program)
     if last is None:
         raise Trouble("no frame has a picture")
     yield last, seconds + at_last

@@ -1,5 +1,7 @@
 """Completions for bash."""
 
+from zaklimot_tools.core.streams import with_parts
+
 from .described import ToolCommand, OfferedFiles, OfferedFolders, Tool, Value
 
 
@@ -125,10 +127,7 @@ def in_bash(tool: Tool) -> str:
         "COMMANDS": "\n".join(commands),
         "VALUES": "\n".join(lines),
     }
-    text = TEXT
-    for place, part in places.items():
-        text = text.replace(f"@{place}@", part)
-    return text
+    return with_parts(TEXT, **places)
 
 
 def _command_lines(command: ToolCommand, arguments: str = "") -> str:

@@ -2,6 +2,8 @@
 
 from typing import Optional
 
+from zaklimot_tools.core.streams import with_parts
+
 from .described import ToolCommand, OfferedFiles, OfferedFolders, ToolOption, Tool, Value
 
 
@@ -52,10 +54,7 @@ def in_fish(tool: Tool) -> str:
         "LINES": "\n".join(lines),
         "FUNCTION": tool.function,
     }
-    text = TEXT
-    for place, part in places.items():
-        text = text.replace(f"@{place}@", part)
-    return text
+    return with_parts(TEXT, **places)
 
 
 def _front(tool: Tool, name: str) -> str:

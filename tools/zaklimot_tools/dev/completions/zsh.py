@@ -2,6 +2,8 @@
 
 from typing import Sequence
 
+from zaklimot_tools.core.streams import with_parts
+
 from .described import ToolCommand, OfferedFiles, OfferedFolders, ToolOption, Tool, Value
 
 
@@ -48,10 +50,7 @@ def in_zsh(tool: Tool) -> str:
         "OPTIONS": " \\\n".join(_option_lines(tool.options, 8)),
         "COMMANDS": "\n".join(map(_command_lines, tool.commands)),
     }
-    text = TEXT
-    for place, part in places.items():
-        text = text.replace(f"@{place}@", part)
-    return text
+    return with_parts(TEXT, **places)
 
 
 def _command_lines(command: ToolCommand) -> str:

@@ -6,7 +6,7 @@ from __future__ import annotations
 import argparse
 import json
 import re
-from typing import Any, Iterator, NamedTuple, Sequence
+from typing import Iterator, NamedTuple, Optional, Sequence
 
 from zaklimot.format import MOST_BYTES
 from zaklimot_tools.core.files import STANDARD, name_of
@@ -27,17 +27,30 @@ MOST_ANSWER = 24
 SAME, NOTHING, WORD_FAILED = "same", "not compared", "fails"
 
 
+class CaseResult(NamedTuple):
+    """What came of a case on an emulator: how many of its answers were compared and how many
+    differ, and both answers of the first step that differs."""
+
+    name: str
+    rule: str
+    folder: str
+    answer: str
+    answers: int
+    differing: int
+    answered: str
+    expected: str
+
+
 class Results(NamedTuple):
-    """What `vga-report suite --json` printed of `vga-floppy run` on an emulator: its cases, with
-    rule and folder."""
+    """What `vga-report suite --json` printed of `vga-floppy run` on an emulator."""
 
     name: str
     version: str
-    cases: Sequence[dict[str, Any]]
+    cases: Sequence[CaseResult]
 
-    def of(self, **given: str) -> list[dict[str, Any]]:
+    def of(self, folder: str, rule: Optional[str] = None) -> list[CaseResult]:
         """The cases of a folder, or those of a rule in it."""
-        return [case for case in self.cases if given.items() <= case.items()]
+        return [case for case in self.cases if case.folder == folder and rule in (None, case.rule)]
 
 
 def _read(path: str) -> Results:
@@ -47,14 +60,20 @@ def _read(path: str) -> Results:
         found = json.loads(data)
         command = found["command"]
         cases = [
-            {**case, "rule": str(rule["rule"]), "folder": str(rule["folder"])}
+            CaseResult(
+                name=str(case["name"]),
+                rule=str(rule["rule"]),
+                folder=str(rule["folder"]),
+                answer=str(case["answer"]),
+                answers=int(case["answers"]),
+                differing=int(case["differing"]),
+                answered=str(case.get("answered", "")),
+                expected=str(case.get("expected", "")),
+            )
             for rule in found["rules"]
             for case in rule["cases"]
         ]
-        for case in cases:
-            # What lacks a part raises an error.
-            int(case["answers"]) + int(case["differing"]) + len(case["answer"])
-    except (ValueError, KeyError, TypeError) as error:
+    except (ValueError, KeyError, TypeError, AttributeError) as error:
         raise Trouble("it isn't what `vga-report suite --json` prints", name) from error
     on = ON.search(command)
     bios = BIOS.search(command)
@@ -105,9 +124,10 @@ def _counts(results: Sequence[Results]) -> Iterator[str]:
     }
     yield from _heading(results, "")
     for answer, text in told.items():
-        yield _row(text, *(f"{len(result.of(answer=answer)):,}" for result in results))
-    compared = [sum(case["answers"] for case in result.cases) for result in results]
-    differing = [sum(case["differing"] for case in result.cases) for result in results]
+        counts = (sum(case.answer == answer for case in result.cases) for result in results)
+        yield _row(text, *(f"{count:,}" for count in counts))
+    compared = [sum(case.answers for case in result.cases) for result in results]
+    differing = [sum(case.differing for case in result.cases) for result in results]
     yield _row("bytes, words and registers compared", *(f"{count:,}" for count in compared))
     yield _row(
         "of these as expected", *(f"{count - wrong:,}" for count, wrong in zip(compared, differing))
@@ -116,35 +136,35 @@ def _counts(results: Sequence[Results]) -> Iterator[str]:
 
 def _folders(results: Sequence[Results]) -> Iterator[str]:
     yield from _heading(results, "Folder: cases that agree, are skipped, differ")
-    for folder in dict.fromkeys(case["folder"] for result in results for case in result.cases):
-        yield _row(f"`{folder}/`", *(_folder_cell(result.of(folder=folder)) for result in results))
+    for folder in dict.fromkeys(case.folder for result in results for case in result.cases):
+        yield _row(f"`{folder}/`", *(_folder_cell(result.of(folder)) for result in results))
 
 
-def _folder_cell(cases: Sequence[dict[str, Any]]) -> str:
+def _folder_cell(cases: Sequence[CaseResult]) -> str:
     kinds = ((AGREES,), (SKIPPED,), (DIFFERS, FAILED))
-    return ", ".join(str(sum(case["answer"] in kind for case in cases)) for kind in kinds)
+    return ", ".join(str(sum(case.answer in kind for case in cases)) for kind in kinds)
 
 
 def _rules(results: Sequence[Results]) -> Iterator[str]:
     """The rules that one of the emulators doesn't follow, each with what it answers first."""
     yield from _heading(results, "Rule of the suite", "Case")
     for text, folder in dict.fromkeys(
-        (case["rule"], case["folder"]) for result in results for case in result.cases
+        (case.rule, case.folder) for result in results for case in result.cases
     ):
-        found = [result.of(rule=text, folder=folder) for result in results]
-        wrong = [case for cases in found for case in cases if case["answer"] in (DIFFERS, FAILED)]
+        found = [result.of(folder, text) for result in results]
+        wrong = [case for cases in found for case in cases if case.answer in (DIFFERS, FAILED)]
         if wrong:
-            yield _row(text, f"`{wrong[0]['name']}`", *map(_rule_cell, found))
+            yield _row(text, f"`{wrong[0].name}`", *map(_rule_cell, found))
 
 
-def _rule_cell(cases: Sequence[dict[str, Any]]) -> str:
+def _rule_cell(cases: Sequence[CaseResult]) -> str:
     """What an emulator makes of a rule: the first difference of its cases, if there is one."""
     for case in cases:
-        if case["answer"] == DIFFERS:
-            return _difference(str(case.get("answered", "")), str(case.get("expected", "")))
-        if case["answer"] == FAILED:
+        if case.answer == DIFFERS:
+            return _difference(case.answered, case.expected)
+        if case.answer == FAILED:
             return WORD_FAILED
-    return SAME if any(case["answers"] for case in cases) else NOTHING
+    return SAME if any(case.answers for case in cases) else NOTHING
 
 
 def _difference(answered: str, expected: str) -> str:

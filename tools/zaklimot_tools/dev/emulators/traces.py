@@ -18,12 +18,12 @@ import sys
 from dataclasses import dataclass
 from functools import partial
 from pathlib import Path
-from typing import Callable, Optional, Sequence
+from typing import Callable, NamedTuple, Optional, Sequence
 
 from zaklimot.format import FORMS, HEADERS
 from zaklimot_tools.core.processes import ended_well, run
 from zaklimot_tools.core.progress import Progress
-from zaklimot_tools.core.trouble import Trouble
+from zaklimot_tools.core.trouble import AGREED, DIFFERED, Trouble
 from zaklimot_tools.explain.faults import script_of
 from zaklimot_tools.floppy.image import image_for
 from zaklimot_tools.report.places import SUITE
@@ -137,7 +137,7 @@ def _file(folder: Optional[Path], *names: str) -> Path:
     for name in names:
         for found in sorted(folder.glob(name)):
             return found
-    raise SystemExit(f"{folder}: there is no {names[0]}")
+    raise Trouble(f"there is no {names[0]}", str(folder))
 
 
 def _linux(has_font: bool, folder: Path, unpacked: Optional[Path]) -> QemuMachine:
@@ -204,9 +204,16 @@ SOFTWARE = {
 }
 
 
-def row(name: str, replayed: Replay, refused: int, dots: Optional[int]) -> tuple[str, bool]:
-    """The row of a recording, and whether it is as known: so many cycles refused, so many dots
-    unlike qemu's."""
+class Row(NamedTuple):
+    """The row of a recording in the table, and whether it is as known."""
+
+    line: str
+    is_as_known: bool
+
+
+def row(name: str, replayed: Replay, refused: int, dots: Optional[int]) -> Row:
+    """The row of a recording of which so many cycles are known to be refused, and so many dots to
+    be unlike qemu's."""
     written = replayed.written
     checked = replayed.checked
     differing = replayed.screens[0].held.differing
@@ -221,10 +228,8 @@ def row(name: str, replayed: Replay, refused: int, dots: Optional[int]) -> tuple
     )
     figures = (replayed.listing.trace.count, written.steps, written.script_bytes, plain, *counts)
     is_as_known = (counts[1], counts[2], differing) == (0, refused, dots)
-    return (
-        f"| {name} | {' | '.join(f'{figure:,}' for figure in figures)} | {picture} |",
-        is_as_known,
-    )
+    told = f"| {name} | {' | '.join(f'{figure:,}' for figure in figures)} | {picture} |"
+    return Row(told, is_as_known)
 
 
 def replay_all(words: argparse.Namespace, progress: Progress) -> int:
@@ -232,30 +237,32 @@ def replay_all(words: argparse.Namespace, progress: Progress) -> int:
     unknown = set(words.names) - set(SOFTWARE)
     if unknown:
         raise Trouble(f"there is no software {', '.join(sorted(unknown))}")
-    status = 0
+    status = AGREED
     program = found_program(instead="README.md says how it is built")
     print(HEADER, flush=True)
     for name in words.names or SOFTWARE:
         software = SOFTWARE[name]
-        folder = words.folder / name
         if software.is_unpacked and words.unpacked is None:
-            print(
-                f"{name}: left out, since --unpacked names no folder", file=sys.stderr, flush=True
-            )
+            _say(name, "left out, since --unpacked names no folder")
             continue
-        folder.mkdir(parents=True, exist_ok=True)
-        if not (folder / TRACE).exists():
-            machine = software.make(folder, words.unpacked)
-            record(
-                machine,
-                folder,
-                lambda text: print(f"{name}: {text}", file=sys.stderr, flush=True),
-                progress,
-            )
-        replayed = replay(folder, program, str(FONTS), progress)
+        _record(name, words, progress)
+        replayed = replay(words.folder / name, program, str(FONTS), progress)
         for line in replayed.listing.warnings():
-            print(f"{name}: {line}", file=sys.stderr)
-        told, is_as_known = row(name, replayed, software.refused, software.dots)
-        status |= not is_as_known
-        print(told, flush=True)
+            _say(name, line)
+        told = row(name, replayed, software.refused, software.dots)
+        print(told.line, flush=True)
+        status = status if told.is_as_known else DIFFERED
     return status
+
+
+def _say(name: str, text: str) -> None:
+    print(f"{name}: {text}", file=sys.stderr, flush=True)
+
+
+def _record(name: str, words: argparse.Namespace, progress: Progress) -> None:
+    """Records software, if it wasn't before."""
+    folder = words.folder / name
+    folder.mkdir(parents=True, exist_ok=True)
+    if not (folder / TRACE).exists():
+        machine = SOFTWARE[name].make(folder, words.unpacked)
+        record(machine, folder, partial(_say, name), progress)

@@ -92,7 +92,8 @@ def check(outcome: Fed, script: Optional[Script]) -> None:
 
 def run(words: Words, folder: Path, limits: Limits) -> Fed:
     """Runs a program. A write past the limit of output fails, as one on a full disk does."""
-    report, said = folder / "report", folder / "said"
+    report = folder / "report"
+    said = folder / "said"
     status = run_command(words, report, said, limits, Event()).status
     with open(said, "rb") as stream:
         message = stream.read(MOST_SAID).decode("ascii", "backslashreplace")

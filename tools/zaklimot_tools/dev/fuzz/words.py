@@ -4,7 +4,7 @@ import argparse
 from functools import partial
 
 from zaklimot_tools.core import cli
-from zaklimot_tools.core.cli import later
+from zaklimot_tools.core.cli import add, later
 from zaklimot_tools.core.files import Input
 from zaklimot_tools.core.words import number_to, seconds
 
@@ -28,28 +28,21 @@ def _parser() -> argparse.ArgumentParser:
         " compiled)"
     )
     parser.add_argument("program", nargs="?", type=Input, help=told)
-    numbers = {
-        "seed": (1, 0, "where the random numbers begin (default: 1)"),
-        "inputs": (0, 0, "how many inputs are made at most (default: any number)"),
-        "first": (1, 1, "the number of the first input, to make one again"),
-        "memory": (256, 1, "how many MiB one run may take (default: 256)"),
-        "output": (64, 1, "how many MiB one run may write (default: 64)"),
-    }
-    for name, (usual, least, told) in numbers.items():
-        most = MOST_MEBIBYTES if name in ("memory", "output") else MOST_NUMBER
-        cli.add(parser, f"--{name} N", told, type=number_to(most, least), default=usual)
-    for name, told in (
-        ("seconds", "how long to make inputs"),
-        ("timeout", "how long one run may take"),
-    ):
-        cli.add(
-            parser,
-            f"--{name} SECONDS",
-            f"{told}, in seconds (default: 60)",
-            type=seconds,
-            default=60,
-        )
-    cli.add(parser, "--keep FOLDER", "keeps the inputs that show something wrong in this folder")
+    told = "where the random numbers begin (default: 1)"
+    add(parser, "--seed N", told, type=number_to(MOST_NUMBER, 0), default=1)
+    told = "how many inputs are made at most (default: any number)"
+    add(parser, "--inputs N", told, type=number_to(MOST_NUMBER, 0), default=0)
+    told = "the number of the first input, to make one again"
+    add(parser, "--first N", told, type=number_to(MOST_NUMBER), default=1)
+    told = "how many MiB one run may take (default: 256)"
+    add(parser, "--memory N", told, type=number_to(MOST_MEBIBYTES), default=256)
+    told = "how many MiB one run may write (default: 64)"
+    add(parser, "--output N", told, type=number_to(MOST_MEBIBYTES), default=64)
+    told = "how long to make inputs, in seconds (default: 60)"
+    add(parser, "--seconds SECONDS", told, type=seconds, default=60)
+    told = "how long one run may take, in seconds (default: 60)"
+    add(parser, "--timeout SECONDS", told, type=seconds, default=60)
+    add(parser, "--keep FOLDER", "keeps the inputs that show something wrong in this folder")
     parser.set_defaults(job=_job("feed_program"))
     return parser
 

@@ -13,7 +13,7 @@ import sys
 import tempfile
 from functools import partial
 from pathlib import Path
-from typing import Callable
+from typing import Callable, NamedTuple
 
 from zaklimot._file import FILE, PORTABLE, PROVED, kind_of
 from zaklimot_tools import TOP
@@ -55,16 +55,32 @@ TELLING_IN_RUST = """fn main() {
     println!("{:?}", zaklimot::library());
 }
 """
-# Runs of the examples: the text of {script}, the words, the status, and what is written, or said of
-# what can't be done. Slices of one step, some that leave a rest, and all.
+
+
+class ExampleRun(NamedTuple):
+    """A run of an example: the text of {script}, the words, the status, and what is written, or
+    said of what can't be done."""
+
+    text: bytes
+    words: str
+    status: int
+    told: str
+
+
+# Slices of one step, some that leave a rest, and all.
 RUNS = (
     *(
-        (TEXT, f"slices {{script}} {steps}", 0, "\n".join((*PRINTED, *REPORT, "")))
+        ExampleRun(TEXT, f"slices {{script}} {steps}", 0, "\n".join((*PRINTED, *REPORT, "")))
         for steps in (1, 4, 6, 1000)
     ),
-    (b"frame\n\nmove 3C4 02\n", "slices {script} 1", 1, "BadLine 3: This line of the text is bad."),
-    (TEXT, "slices {script} 0", 2, "0: a slice has one step or more"),
-    (
+    ExampleRun(
+        b"frame\n\nmove 3C4 02\n",
+        "slices {script} 1",
+        1,
+        "BadLine 3: This line of the text is bad.",
+    ),
+    ExampleRun(TEXT, "slices {script} 0", 2, "0: a slice has one step or more"),
+    ExampleRun(
         TEXT,
         "picture no-such-folder/picture.ppm",
         1,
@@ -170,13 +186,15 @@ def check_rust_examples(library: Path, folder: Path) -> str:
         pictures.append((folder / "picture.ppm").read_bytes())
     if pictures[0] != pictures[1]:
         raise Wrong("the picture of Rust is not Python's")
-    for text, line, status, told in RUNS:
-        script.write_bytes(text)
-        name, *rest = line.format(script=script).split()
+    for one in RUNS:
+        script.write_bytes(one.text)
+        name, *rest = one.words.format(script=script).split()
         done = captured([made / name, *rest], folder, seconds=SOON)
         said = (done.output + done.errors).decode("utf-8", "replace")
-        if done.status != status or (told not in said if status else told != said):
-            raise Wrong(f"in Rust, `{line}` ends with status {done.status}, and says {said!r}")
+        is_told = one.told in said if one.status else one.told == said
+        if done.status != one.status or not is_told:
+            ended = f"ends with status {done.status}, and says {said!r}"
+            raise Wrong(f"in Rust, `{one.words}` {ended}")
     _check_page(library, folder)
     return "a picture, a script in slices, and the page's programs in a project of its own"
 

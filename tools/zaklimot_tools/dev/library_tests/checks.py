@@ -10,7 +10,7 @@ import shlex
 import shutil
 import sys
 from pathlib import Path
-from typing import Any, Optional, Sequence
+from typing import Any, NamedTuple, Optional, Sequence
 
 from zaklimot.format import Picture
 from zaklimot_tools import TOP
@@ -22,7 +22,7 @@ from zaklimot_tools.dev.library.making import FONTS, MOVING, Place, make_library
 from zaklimot_tools.report.cases import read_cases
 from zaklimot_tools.report.places import SUITE
 
-from .compilers import SANITIZED, STRICT, Built, build, run
+from .compilers import SANITIZED, STRICT, Built, Compiler, build, run
 
 
 SOURCES = Path(__file__).resolve().parent / "c"
@@ -74,6 +74,24 @@ SIZE = b"P6\n640 480\n255\n"
 SCREENS = [SIZE, b"P6\n640 400\n255\n", b"P6\n720 400\n255\n"]
 
 
+class CompilerWay(NamedTuple):
+    """A compiler with a language, `c` or `c++`, and one of its standards."""
+
+    program: str
+    language: str
+    standard: str
+
+    def check_header(self, built: Built, alone: Path) -> None:
+        """The header is taken without a warning, by itself and, where there are static asserts,
+        with those about its structs."""
+        has_asserts = self.language == "c++" or self.standard in ASSERTING
+        include = ("-I", built.folder / "include")
+        words: list[Word] = [self.program, "-x", self.language, f"-std={self.standard}"]
+        words += [*STRICT, "-fsyntax-only", *include]
+        for source in (alone, LAYOUT) if has_asserts else (alone,):
+            run([*words, source])
+
+
 def check_header(built: Built, folder: Path) -> str:
     """Compiles the header alone, and the asserts about its structs, as C and as C++; and the C++
     header."""
@@ -82,31 +100,20 @@ def check_header(built: Built, folder: Path) -> str:
     alone.write_text(2 * '#include "zaklimot.h"\n' + "int unused;\n")
     count = 0
     for compiler in built.compilers:
-        tries = [(compiler.c, "c", standard) for standard in C_STANDARDS]
-        tries += [(compiler.cpp, "c++", standard) for standard in CPP_STANDARDS]
-        for name, language, standard in tries:
-            for source in (
-                [alone, LAYOUT] if language == "c++" or standard in ASSERTING else [alone]
-            ):
-                flags: list[Word] = [
-                    "-x",
-                    language,
-                    f"-std={standard}",
-                    *STRICT,
-                    "-fsyntax-only",
-                    "-I",
-                    built.folder / "include",
-                ]
-                run([name, *flags, source])
-            count += 1
-        # The C++ header is taken, and a card by it answers, throws, moves and closes.
+        ways = [CompilerWay(compiler.c, "c", standard) for standard in C_STANDARDS]
+        ways += [CompilerWay(compiler.cpp, "c++", standard) for standard in CPP_STANDARDS]
+        for way in ways:
+            way.check_header(built, alone)
         for standard in OBJECT_STANDARDS:
-            words = build(
-                compiler.cpp, built, [OBJECTS], folder / "objects", *SANITIZED, standard=standard
-            )
-            run([*words, FONTS])
-            count += 1
+            _check_objects(compiler, standard, built, folder)
+        count += len(ways) + len(OBJECT_STANDARDS)
     return f"taken in {count} ways by {', '.join(compiler.c for compiler in built.compilers)}"
+
+
+def _check_objects(compiler: Compiler, standard: str, built: Built, folder: Path) -> None:
+    """The C++ header is taken, and a card by it answers, throws, moves and closes."""
+    words = build(compiler.cpp, built, [OBJECTS], folder / "objects", *SANITIZED, standard=standard)
+    run([*words, FONTS])
 
 
 def names_in(built: Built, path: Path, *words: str) -> set[str]:
@@ -140,37 +147,50 @@ def check_names(built: Built, _: Path) -> str:
 # A line of misuse.txt that tells a call's status; functions of misuse.c make some.
 CALL = re.compile(r"^(?:zak_\w+|restore_with|assemble|print|take)\(", re.M)
 WRAPPED = "-Wl,--wrap=malloc,--wrap=calloc,--wrap=realloc,--wrap=free"
-# Programs that write how much they have compared: how each is built, how much it is to try, and
-# what is told behind it.
-COUNTED: dict[str, tuple[Sequence[str], Sequence[str], str]] = {
+
+
+class CountingProgram(NamedTuple):
+    """A program that writes how much it has compared: the flags that it is built with, its words,
+    which say how much it is to try, and what is told behind the count."""
+
+    flags: Sequence[str]
+    words: Sequence[str]
+    told: str
+
+
+COUNTED = {
     # What is read of the state and of the screen says what the dumps say, so that structs are the
     # proved side's.
-    "state": (SANITIZED, (), "readings are those of dumps and screens"),
+    "state": CountingProgram(SANITIZED, (), "readings are those of dumps and screens"),
     # What zak_clock tells comes after just so many dots, over pseudo-random registers.
-    "clock": (
+    "clock": CountingProgram(
         ["-O2"],
         ["100000"],
         "settings of registers, each with an event that comes when it is told",
     ),
     # Dots that are left to be drawn after a cycle are those that are drawn one call after the
     # other.
-    "advances": (
+    "advances": CountingProgram(
         SANITIZED,
         ["1000"],
         "advances, each the same with a read after it, and cycles among them",
     ),
     # Calls for many bytes leave and answer what their single cycles do, over pseudo-random
     # registers.
-    "transfers": (SANITIZED, ["20000"], "transfers, each the same as its cycles"),
+    "transfers": CountingProgram(SANITIZED, ["20000"], "transfers, each the same as its cycles"),
     # Pictures in words are those in bytes, in each form, over pseudo-random registers.
-    "pictures": (SANITIZED, ["200"], "pictures in words, each that of the bytes"),
+    "pictures": CountingProgram(SANITIZED, ["200"], "pictures in words, each that of the bytes"),
     # Lines of so many frames as they end are those of the whole frame, over pseudo-random
     # registers.
-    "lines": (SANITIZED, ["100"], "lines as they end, each that of its frame"),
+    "lines": CountingProgram(SANITIZED, ["100"], "lines as they end, each that of its frame"),
     # What zak_block tells is what interrupt 10 takes, over pseudo-random calls.
-    "blocks": (SANITIZED, ["20011"], "calls of interrupt 10, each with its block or another"),
+    "blocks": CountingProgram(
+        SANITIZED, ["20011"], "calls of interrupt 10, each with its block or another"
+    ),
     # What zak_cycles lists leaves what interrupt 10 leaves, over pseudo-random calls.
-    "cycles": (SANITIZED, ["2000"], "calls of interrupt 10, each what its listed cycles are"),
+    "cycles": CountingProgram(
+        SANITIZED, ["2000"], "calls of interrupt 10, each what its listed cycles are"
+    ),
 }
 
 
@@ -198,9 +218,10 @@ def check_misuse(built: Built, folder: Path) -> str:
 
 def check_counted(name: str, built: Built, folder: Path) -> str:
     """A program of COUNTED finds all as it is to be."""
-    flags, tries, told = COUNTED[name]
-    words = build(built.compilers[0].c, built, [SOURCES / f"{name}.c"], folder / name, *flags)
-    return f"{int(run([*words, FONTS, *tries]))} {told}"
+    program = COUNTED[name]
+    source = SOURCES / f"{name}.c"
+    words = build(built.compilers[0].c, built, [source], folder / name, *program.flags)
+    return f"{int(run([*words, FONTS, *program.words]))} {program.told}"
 
 
 def check_threads(built: Built, folder: Path) -> str:
@@ -226,15 +247,24 @@ MOST_TOLD, OF_A_CASE = 20, 11 * " "
 # What the harness is given for a text, and for bytes; steps of a slice are so few that most cases
 # have several.
 TEXTS, BYTES, SLICES = "{script} {fonts} {until}", "--bytes {script} {fonts}", "--slices 7"
-# The ways in which the cases are run: those of texts, and those of bytes.
+
+
+class HarnessWords(NamedTuple):
+    """The words of the harness for a text, and for bytes."""
+
+    texts: str
+    scripts: str
+
+
+# The ways in which the cases are run.
 WAYS = {
-    "suite": (TEXTS, BYTES),
+    "suite": HarnessWords(TEXTS, BYTES),
     # Cards are saved and others restored, at pseudo-random steps and dots.
-    "restored": (f"--restored {TEXTS}", BYTES),
+    "restored": HarnessWords(f"--restored {TEXTS}", BYTES),
     # In slices of a few steps, all on one card.
-    "sliced": (f"{SLICES} {TEXTS}", f"{SLICES} --bytes {TEXTS}"),
+    "sliced": HarnessWords(f"{SLICES} {TEXTS}", f"{SLICES} --bytes {TEXTS}"),
     # Writes, and reads, of addresses that follow one another are one call.
-    "joined": (f"--joined {TEXTS}", BYTES),
+    "joined": HarnessWords(f"--joined {TEXTS}", BYTES),
 }
 HARNESS = [TOP / "examples" / "c" / name for name in ("harness.c", "script.c")]
 
@@ -330,7 +360,8 @@ def check_scripts(built: Built, folder: Path) -> str:
     def session(script: Path, commands: bytes) -> list[str]:
         return run([*debugger, FONTS, script], given=commands).splitlines()
 
-    few, long = folder / "few.vga", folder / "long.vga"
+    few = folder / "few.vga"
+    long = folder / "long.vga"
     few.write_bytes(TEXT)
     told = session(few, b"list\nstep 3\nback\nstep 4294967299\nback 9\nbeam\n")
     wanted = [
@@ -508,7 +539,8 @@ def _check_script(built: Built, pc: Path, folder: Path, name: str) -> None:
 
 def _screens(pc: Path, folder: Path, *words: str | Path) -> list[Path]:
     """The pictures of the screens that the PC shows of its own floppy."""
-    pictures, image = folder / "pictures", folder / "demo.img"
+    pictures = folder / "pictures"
+    image = folder / "demo.img"
     shutil.rmtree(pictures, ignore_errors=True)
     pictures.mkdir()
     shutil.copyfile(PC / "demo.img", image)

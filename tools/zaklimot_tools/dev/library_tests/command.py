@@ -5,7 +5,7 @@ import tempfile
 from contextlib import ExitStack
 from functools import partial
 from pathlib import Path
-from typing import Any, Callable, Sequence
+from typing import Callable, Mapping, Sequence, TypeVar
 
 from zaklimot_tools.core.progress import Progress
 from zaklimot_tools.core.trouble import Trouble
@@ -65,7 +65,11 @@ OWN = ("installing", "pc")
 OF_FILE = "file"
 
 
-def _chosen(only: Sequence[str], there: dict[str, Any], target: Target) -> dict[str, Any]:
+Chosen = TypeVar("Chosen")
+
+
+def _chosen(only: Sequence[str], there: Mapping[str, Chosen], target: Target) -> dict[str, Chosen]:
+    """The checks that are wanted, of those that there are for a processor."""
     for name in only:
         if name not in there:
             raise Trouble(f"there is no such check for {target.name}", name)
@@ -74,7 +78,9 @@ def _chosen(only: Sequence[str], there: dict[str, Any], target: Target) -> dict[
 
 def _run_portable(words: argparse.Namespace, progress: Progress) -> None:
     target = PORTABLE_TARGETS[words.target]
-    there: dict[str, Any] = {**({OF_FILE: None} if words.gated else {}), **checks_for(target)}
+    there = checks_for(target)
+    if words.gated:
+        there = {OF_FILE: lambda _: check_file(made_for_c(words, progress)), **there}
     wanted = _chosen(words.only, there, target)
     refuse_to_check(lacking_for(target) + (not_there(TRANSLATORS) if words.gated else []))
     with tempfile.TemporaryDirectory(prefix="vga-library-tests-") as folder, ExitStack() as stack:
@@ -82,12 +88,7 @@ def _run_portable(words: argparse.Namespace, progress: Progress) -> None:
             stack.enter_context(windows_in(Path(folder)))
         maker = Maker(Path(folder), target)
         for name, check in wanted.items():
-            work = partial(check, maker) if check else partial(_check_made, words, progress)
-            make_check(f"{name}, as one C file", work)
-
-
-def _check_made(words: argparse.Namespace, progress: Progress) -> str:
-    return check_file(made_for_c(words, progress))
+            make_check(f"{name}, as one C file", partial(check, maker))
 
 
 def _wanted(only: Sequence[str], target: Target) -> dict[str, Check]:

@@ -113,7 +113,8 @@ def not_there(programs: Iterable[str]) -> list[str]:
 def lacking(target: Target) -> list[str]:
     """What this machine lacks to test the library for a processor, each with the package to
     install."""
-    compilers, runner = COMPILERS[target], RUNNERS[target]
+    compilers = COMPILERS[target]
+    runner = RUNNERS[target]
     emulators = [word for word in runner if word in SOURCES]
     built_by = [name for compiler in compilers for name in (compiler.c, compiler.cpp)]
     return not_there([*map(target.tool, BINUTILS), *emulators, *built_by]) + [

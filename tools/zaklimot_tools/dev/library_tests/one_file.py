@@ -204,8 +204,8 @@ HOST: dict[str, Check] = {
     **{way: _by(partial(check_cases, way)) for way in ("restored", "sliced", "joined")},
     "misuse": _by(check_misuse, True),
     **{
-        name: _by(partial(check_counted, name), flags == SANITIZED)
-        for name, (flags, _, _) in COUNTED.items()
+        name: _by(partial(check_counted, name), program.flags == SANITIZED)
+        for name, program in COUNTED.items()
     },
     "memory": check_memory,
     "threads": _by(check_threads),

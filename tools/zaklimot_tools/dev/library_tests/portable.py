@@ -71,7 +71,8 @@ def portable_library(folder: Path) -> Path:
     """Compiles the C file, and lays it into a folder as `vga-library make` lays the proved one."""
     made = folder / PORTABLE
     code = folder / "zaklimot.o"
-    whole, nothing = folder / "portable.a", folder / "nothing.a"
+    whole = folder / "portable.a"
+    nothing = folder / "nothing.a"
     run(["cc", *OPTIONS, "-I", HEADER.parent, "-c", SOURCE, "-o", code])
     run(["ar", "rcsD", whole, code])
     # It takes its memory of the C library itself.

@@ -371,17 +371,17 @@ class Processor:
         # In real mode the place is told as one of all memory.
         place -= 16 * segments[1]
         return Sample(
-            self.is_protected,
-            registers,
-            flags,
-            one.code,
-            tuple(uc.reg_read(name) & 0xFFFFFFFF for name in REGISTERS),
-            uc.reg_read(x86.UC_X86_REG_EFLAGS) & 0xFFFF,
-            compared,
-            place & 0xFFFFFFFF,
-            segments,
-            changed,
-            tuple(self.ports),
+            kind=int(self.is_protected),
+            registers=registers,
+            flags=flags,
+            code=one.code,
+            after=tuple(uc.reg_read(name) & 0xFFFFFFFF for name in REGISTERS),
+            flags_after=uc.reg_read(x86.UC_X86_REG_EFLAGS) & 0xFFFF,
+            compared=compared,
+            place=place & 0xFFFFFFFF,
+            segments=segments,
+            written=changed,
+            ports=tuple(self.ports),
         )
 
     def _changed(self) -> tuple[tuple[int, int], ...]:

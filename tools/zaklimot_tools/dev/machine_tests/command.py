@@ -11,7 +11,7 @@ import tempfile
 from functools import partial
 from pathlib import Path
 from threading import Event
-from typing import Optional
+from typing import NamedTuple, Optional
 
 from zaklimot_tools import TOP
 from zaklimot_tools.core.processes import Word, captured, check_program, in_parallel, run
@@ -62,14 +62,26 @@ def built_processor(folder: Path) -> Path:
     return program
 
 
-def judged(output: str) -> list[int]:
-    """How many cases were compared, differ, are lacking and lie beyond a segment; a Wrong tells
-    those that differ."""
+class CaseCounts(NamedTuple):
+    """How many cases were compared, differ, are lacking, and lie beyond a segment's end."""
+
+    compared: int = 0
+    differ: int = 0
+    lacking: int = 0
+    beyond: int = 0
+
+    def beside(self, other: CaseCounts) -> CaseCounts:
+        """These and others together."""
+        return CaseCounts(*(one + more for one, more in zip(self, other)))
+
+
+def judged(output: str) -> CaseCounts:
+    """The counts that the processor's program tells; a Wrong tells the cases that differ."""
     found = COUNT.search(output)
     if found is None:
         raise Wrong(f"the processor's program told no count: {output[-400:]}")
-    counts = [int(number) for number in found.groups()]
-    if counts[1] or counts[2]:
+    counts = CaseCounts(*map(int, found.groups()))
+    if counts.differ or counts.lacking:
         raise Wrong(f"the processor does otherwise:\n{output.rstrip()}")
     return counts
 
@@ -80,7 +92,7 @@ def check_manual(program: Path) -> str:
     done = captured(
         [program, "faults"], given=b"".join(one.packed() for one in made), seconds=SECONDS
     )
-    compared = judged(done.output.decode("ascii", "replace"))[0]
+    compared = judged(done.output.decode("ascii", "replace")).compared
     if compared != len(made):
         raise Wrong(f"{compared} of {len(made)} cases of the manual were compared")
     return f"{compared} cases of Intel's manual"
@@ -103,7 +115,7 @@ def _compared(
     seed: int,
     module: str = "cases",
     chunk: int = CHUNK,
-) -> list[int]:
+) -> CaseCounts:
     """A chunk of cases of a module. Unicorn may end the process amid them: those before count."""
     made = folder / f"{seed}.cases"
     words = [python, "-m", f"zaklimot_tools.dev.machine_tests.{module}", str(chunk), str(seed)]
@@ -116,32 +128,30 @@ def _compared(
 
 def check_unicorn(program: Path, python: str, folder: Path, count: int, seed: int) -> str:
     """So many random instructions, one at a time."""
-    total = [0, 0, 0, 0]
+    total = CaseCounts()
     is_ended = Event()
     chunks = iter(range(seed, seed + 1 + 4 * count // CHUNK))
     jobs = os.cpu_count() or 1
     work = partial(_compared, program, python, folder, is_ended)
-    while total[0] < count:
+    while total.compared < count:
         seeds = [number for number, _ in zip(chunks, range(jobs))]
         if not seeds:
-            raise Wrong(
-                f"only {total[0]:,} cases came of Unicorn, which ends its process too often"
-            )
+            told = f"only {total.compared:,} cases came of Unicorn"
+            raise Wrong(f"{told}, which ends its process too often")
         with in_parallel(work, seeds, jobs, is_ended) as found:
             for counts in found:
-                total = [one + other for one, other in zip(total, counts)]
-    return (
-        f"{total[0]:,} instructions as Unicorn does them; {total[3]:,} beyond a segment's end are"
-        " left out"
-    )
+                total = total.beside(counts)
+    told = f"{total.compared:,} instructions as Unicorn does them"
+    return f"{told}; {total.beyond:,} beyond a segment's end are left out"
 
 
 def check_descriptors(program: Path, python: str, folder: Path, seed: int) -> str:
     """Loads of segments, and far jumps, by tables of descriptors."""
     counts = _compared(program, python, folder, Event(), seed, "descriptors", DESCRIBED)
-    if counts[0] < DESCRIBED // 2:
-        raise Wrong(f"only {counts[0]:,} of {DESCRIBED:,} cases of descriptors came of Unicorn")
-    return f"{counts[0]:,} loads of segments and far jumps as Unicorn does them"
+    compared = counts.compared
+    if compared < DESCRIBED // 2:
+        raise Wrong(f"only {compared:,} of {DESCRIBED:,} cases of descriptors came of Unicorn")
+    return f"{compared:,} loads of segments and far jumps as Unicorn does them"
 
 
 def run_checks(words: argparse.Namespace, _: Progress) -> None:

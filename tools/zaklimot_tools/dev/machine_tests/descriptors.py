@@ -213,21 +213,21 @@ class Segmented:
             else [(i, memory[i]) for i in range(MEMORY) if memory[i] != before[i]]
         )
         return Sample(
-            2,
-            tuple(one.registers),
-            2,
-            bytes.fromhex(one.code),
-            tuple(uc.reg_read(name) & 0xFFFFFFFF for name in REGISTERS),
-            uc.reg_read(x86.UC_X86_REG_EFLAGS) & 0xFFFF,
-            0xFFFF,
-            place & 0xFFFFFFFF,
-            segments,
-            tuple(written),
-            (),
-            one.count,
-            tables,
-            tuple(one.given),
-            self.fault,
+            kind=2,
+            registers=tuple(one.registers),
+            flags=2,
+            code=bytes.fromhex(one.code),
+            after=tuple(uc.reg_read(name) & 0xFFFFFFFF for name in REGISTERS),
+            flags_after=uc.reg_read(x86.UC_X86_REG_EFLAGS) & 0xFFFF,
+            compared=0xFFFF,
+            place=place & 0xFFFFFFFF,
+            segments=segments,
+            written=tuple(written),
+            ports=(),
+            instructions=one.count,
+            tables=tables,
+            given=tuple(one.given),
+            fault=self.fault,
         )
 
 

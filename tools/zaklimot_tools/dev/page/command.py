@@ -12,7 +12,7 @@ from zaklimot_tools.core.streams import read_at_most, refuse_input, write_file
 from zaklimot_tools.report.debugging import PAGE
 
 from .machine import made_or_kept
-from .making import MOST_MODULE, check_module, made_modules
+from .making import MOST_MODULE, check_module, made_module
 from .page import make_page, protect_sources, read_sources, wordings_module
 
 
@@ -43,7 +43,7 @@ def make(words: argparse.Namespace, progress: Progress) -> None:
     sources = read_sources()
     machine = made_or_kept(PAGE, lambda told: print(told, file=sys.stderr))
     if module is None:
-        module = made_modules(words, progress, [words.memory])[0][0]
+        module = made_module(words, progress)
     page = make_page(module, sources, machine)
     _write(words.file, page, f"{len(page):,} bytes; its module has {check_module(module)}")
 
@@ -51,7 +51,7 @@ def make(words: argparse.Namespace, progress: Progress) -> None:
 def make_module(words: argparse.Namespace, progress: Progress) -> None:
     """Makes the page's module alone."""
     _given_module(words)
-    module = made_modules(words, progress, [words.memory])[0][0]
+    module = made_module(words, progress)
     _write(words.file, module, check_module(module))
 
 

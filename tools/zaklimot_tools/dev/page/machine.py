@@ -19,6 +19,7 @@ from zaklimot_tools.core.processes import Word, captured, check_program, run
 from zaklimot_tools.core.streams import read_at_most
 from zaklimot_tools.core.trouble import Trouble
 from zaklimot_tools.report.debugging import MOST_PAGE, page_data
+from zaklimot_tools.script.portable import cache_folder
 
 from .making import kit_of, with_kit
 from .packing import about, in_base64, packed, unzipped
@@ -92,8 +93,7 @@ class MachineModules(NamedTuple):
 
 
 def _cache() -> Path:
-    base = os.environ.get("XDG_CACHE_HOME") or str(Path.home() / ".cache")
-    return Path(base) / "zaklimot" / ARCHIVE
+    return cache_folder() / ARCHIVE
 
 
 def _is_right(data: bytes) -> bool:

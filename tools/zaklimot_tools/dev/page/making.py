@@ -13,6 +13,7 @@ import io
 import re
 import shlex
 import tempfile
+from contextlib import contextmanager
 from pathlib import Path
 from typing import BinaryIO, Callable, Iterator, NamedTuple, Optional, Sequence
 
@@ -92,7 +93,20 @@ start:
   ret i32 0
 }
 """
-OF_MEMORY = (("i64", "page_take", "i64 noundef %bytes"), ("i32", "page_give", "ptr noundef %block"))
+
+
+class ProvedCall(NamedTuple):
+    """A proved function that a module shows: what it answers, its name, and its parameters."""
+
+    answer: str
+    name: str
+    parameters: str
+
+
+OF_MEMORY = (
+    ProvedCall("i64", "page_take", "i64 noundef %bytes"),
+    ProvedCall("i32", "page_give", "ptr noundef %block"),
+)
 GUARD = """
 declare noundef zeroext i1 @__rattle_enter() nounwind
 declare void @__rattle_leave() nounwind
@@ -272,16 +286,28 @@ OF_PAGE, OF_C = ModuleForm(True, True), ModuleForm(False, False)
 WIDE = ("ptr", "i64")
 
 
+class Parameter(NamedTuple):
+    """A parameter of a call: its type, its name, and the whole of it as it stands."""
+
+    kind: str
+    name: str
+    whole: str
+
+
 class Shown:
     """A call that a module shows: a function round the proved one."""
 
-    def __init__(self, result: str, name: str, parameters: str, form: ModuleForm) -> None:
-        read = [PARAMETER.fullmatch(parameter) for parameter in parameters.split(", ") if parameter]
+    def __init__(self, call: ProvedCall, form: ModuleForm) -> None:
+        listed = call.parameters.split(", ")
+        read = [PARAMETER.fullmatch(parameter) for parameter in listed if parameter]
         if None in read:
-            raise Trouble(f"the parameters of {name} are not read: {parameters}", NAME)
-        self._parameters = [(word[1], word[2], word[0]) for word in read if word is not None]
-        self._result = result
-        self._name = name
+            told = f"the parameters of {call.name} are not read: {call.parameters}"
+            raise Trouble(told, NAME)
+        self._parameters = [
+            Parameter(word[1], word[2], word[0]) for word in read if word is not None
+        ]
+        self._result = call.answer
+        self._name = call.name
         self._form = form
 
     def _is_widened(self, kind: str) -> bool:
@@ -330,17 +356,14 @@ def retargeted(text: str, form: ModuleForm) -> str:
     `page_give`."""
     _refuse_unknown(text)
     text = _with_target(text)
-    exports = [found[:3] for found in EXPORT.findall(text)]
+    exports = [ProvedCall(*found[:3]) for found in EXPORT.findall(text)]
     if not exports:
         raise Trouble("it exports nothing", NAME)
     kept = "noinline " if form.is_guarded else ""
     text = EXPORT.sub(rf'define internal noundef \1 @"rattle::export \2"(\3) {kept}#\4 {{', text)
-    shown = [(export, form.is_guarded) for export in exports] + [
-        (export, False) for export in OF_MEMORY
-    ]
     wrappers = (
-        Shown(answer, name, given, form).text(number, is_guarded)
-        for number, ((answer, name, given), is_guarded) in enumerate(shown, FIRST_NUMBER)
+        Shown(call, form).text(number, form.is_guarded and call not in OF_MEMORY)
+        for number, call in enumerate((*exports, *OF_MEMORY), FIRST_NUMBER)
     )
     return text + MEMORY + (GUARD if form.is_guarded else "") + "".join(wrappers)
 
@@ -392,7 +415,8 @@ class ModuleMaker:
 
     def _llvm_text(self, building: Sequence[str | Path], folder: Path) -> str:
         """The text of the LLVM module that Rattle makes of the proved crate for x86-64."""
-        kept, text = folder / "module.bc", folder / "native.ll"
+        kept = folder / "module.bc"
+        text = folder / "native.ll"
         toolchain = self._keeping_toolchain(folder / "toolchain", kept)
         words = [
             *building,
@@ -409,7 +433,8 @@ class ModuleMaker:
         return text.read_text("utf-8")
 
     def _archive(self, text: str, folder: Path) -> Path:
-        source, archive = folder / "wasm.ll", folder / "wasm.a"
+        source = folder / "wasm.ll"
+        archive = folder / "wasm.a"
         objects = [folder / "wasm.o", folder / "heap.o"]
         source.write_text(text, "utf-8")
         clang: list[Word] = [self._tools / "clang", *TARGET]
@@ -456,32 +481,42 @@ class ModuleMaker:
             return self._lowered(self._linked(self._archive(text, Path(name)), None))
 
 
-def made_for_c(words: argparse.Namespace, progress: Progress) -> bytes:
-    """Proves the crate, and makes the module of which C is made; --gated and --proof as for
-    `made_modules`."""
-    with tempfile.TemporaryDirectory(prefix="vga-page-") as name:
-        maker = ModuleMaker(Path(name), phases(progress))
-        building = maker.prove(
-            (words.proof or Path(name) / "proof").absolute() if words.gated else None
-        )
-        module = maker.module_for_c(building)
-    progress.clear()
-    return module
+class ProvedCrate(NamedTuple):
+    """The crate once it is proved: what makes modules of it, and the words by which the compiler
+    finds what is kept of the proof."""
+
+    maker: ModuleMaker
+    building: Sequence[Word]
 
 
-def made_modules(
-    words: argparse.Namespace, progress: Progress, memories: Sequence[Optional[int]], times: int = 1
-) -> list[list[bytes]]:
-    """Proves the crate once, and makes its modules so many times, one for each size of memory.
+@contextmanager
+def _proved(words: argparse.Namespace, progress: Progress) -> Iterator[ProvedCrate]:
+    """Proves the crate.
 
     By --gated of the words the crates below are those that `rt ci` left; the folder of --proof
     keeps the crate's own.
     """
     with tempfile.TemporaryDirectory(prefix="vga-page-") as name:
         maker = ModuleMaker(Path(name), phases(progress))
-        building = maker.prove(
-            (words.proof or Path(name) / "proof").absolute() if words.gated else None
-        )
-        made = [maker.modules(building, memories) for _ in range(times)]
+        proof = (words.proof or Path(name) / "proof").absolute() if words.gated else None
+        yield ProvedCrate(maker, maker.prove(proof))
     progress.clear()
-    return made
+
+
+def made_for_c(words: argparse.Namespace, progress: Progress) -> bytes:
+    """Proves the crate, and makes the module of which C is made."""
+    with _proved(words, progress) as proved:
+        return proved.maker.module_for_c(proved.building)
+
+
+def made_module(words: argparse.Namespace, progress: Progress) -> bytes:
+    """Proves the crate, and makes its module, with memory of the size that the words name."""
+    return made_modules(words, progress, [words.memory])[0][0]
+
+
+def made_modules(
+    words: argparse.Namespace, progress: Progress, memories: Sequence[Optional[int]], times: int = 1
+) -> list[list[bytes]]:
+    """Proves the crate once, and makes its modules so many times, one for each size of memory."""
+    with _proved(words, progress) as proved:
+        return [proved.maker.modules(proved.building, memories) for _ in range(times)]

@@ -1,5 +1,4 @@
-"""What a release holds: files of the commit, what is built, the
-wheel, and pages.
+"""What a release holds: files of the commit, what is built, the wheel, and pages.
 
 Their links lead to what is in it. The archive hangs on nothing but its files and the commit's time.
 The C file has an archive of its own, which needs no toolchain.

@@ -73,9 +73,9 @@ def judge(words: argparse.Namespace, progress: Progress) -> int:
     if missing:
         raise Trouble(f"this machine lacks {', '.join(missing)}: install Debian's packages")
     status = PASSED
-    for judge in () if words.ready else JUDGES:
-        told = judged(judge)
-        heading = f"{'failed' if told else 'passed'}  {judge.name}{judge.of}"
+    for one in () if words.ready else JUDGES:
+        told = judged(one)
+        heading = f"{'failed' if told else 'passed'}  {one.name}{one.of}"
         print(f"{heading}\n{told}", end="", flush=True)
         status = FAILED if told else status
     return status
