@@ -30,7 +30,7 @@ from .tools import MAIN, NAMES, PYTHON, TOOLS, TOP, call, ended, hold_undone, ma
 
 # What may be loaded for a help: what all tools have in common, and modules of words alone.
 LIGHT = re.compile(
-    r"^zaklimot_tools(\.(starting|core(\.(cli|files|progress|trouble|version|words))?"
+    r"^zaklimot_tools(\.(starting|core(\.(cli|files|progress|signals|trouble|version|words))?"
     r"|(script|images|report|trace|picture|floppy|steps|dev(\.\w+)?)"
     r"(\.(\w*words|asked|places|mode))?))?$"
 )

@@ -40,8 +40,14 @@ WINDOWS = tuple(
     MemoryWindow(int(first, 16), int(last, 16) + 1 - int(first, 16))
     for first, last in WORDINGS["ports"]["windows"]
 )
-# The lines of a frame, the characters of a line, and the dots of a character.
-Shape = tuple[int, int, int]
+
+
+class FrameShape(NamedTuple):
+    """The lines of a frame, the characters of a line, and the dots of a character."""
+
+    lines: int
+    characters: int
+    dots: int
 
 
 def _unprotected(crtc: Bank) -> int:
@@ -156,10 +162,11 @@ class Banks:
         self._indexes = {SEQUENCER: self.seq, GRAPHICS: self.gfx, self.controller: self.crtc}
 
     @property
-    def shape(self) -> Shape:
+    def shape(self) -> FrameShape:
         """The shape of the frame."""
         crtc = self.crtc.registers
-        return frame_lines(crtc), line_characters(crtc), character_dots(self.seq.registers)
+        dots = character_dots(self.seq.registers)
+        return FrameShape(frame_lines(crtc), line_characters(crtc), dots)
 
     def bank(self, port: int) -> Optional[Bank]:
         """The registers whose index a port is."""

@@ -79,6 +79,13 @@ MODES = {
 }
 
 
+class Speed(NamedTuple):
+    """How fast the beam is: the dots of a frame, and the dots that pass in a second."""
+
+    dots: int
+    clock: float
+
+
 def bytes_written(step: Step) -> tuple[tuple[int, int], ...]:
     """The ports that a step writes, each with its byte."""
     if step.name not in ("out", "outw"):
@@ -160,11 +167,10 @@ class Registers:
     def frame(self) -> float:
         """The seconds that a frame lasts; those of 70 a second where the script doesn't tell."""
         found = self.speed()
-        return USUAL if found is None else found[0] / found[1]
+        return USUAL if found is None else found.dots / found.clock
 
-    def speed(self) -> Optional[tuple[int, float]]:
-        """The dots of a frame, and the dots that pass in a second; None where the script doesn't
-        tell."""
+    def speed(self) -> Optional[Speed]:
+        """How fast the beam is; None where the script doesn't tell."""
         clock = CLOCKS.get(self.banks.misc >> 2 & 3) if self._has_clock else None
         if clock is None or not (self._is_of_mode or TELLING <= self._told):
             return None
@@ -174,7 +180,7 @@ class Registers:
         else:
             dots = prod(self.banks.shape)
             is_halved = bool(self.banks.seq.registers[CLOCKING] & 8)
-        return dots, clock / (2 if is_halved else 1)
+        return Speed(dots, clock / (2 if is_halved else 1))
 
 
 def why_refused(words: str, number: int, state: Registers) -> str:

@@ -196,11 +196,13 @@ class RunScript:
         A fault is told with its reason. A run that is ended at a limit tells nothing: a second one
         then tells what stands before it.
         """
-        given = progress, is_strict, tells_why
+        rows_until = partial(
+            self._rows, fonts, progress=progress, is_strict=is_strict, tells_why=tells_why
+        )
         try:
-            yield from self._rows(fonts, until, *given)
+            yield from rows_until(until)
         except Limited as limited:
-            yield from islice(self._rows(fonts, limited.before, *given), limited.before)
+            yield from islice(rows_until(limited.before), limited.before)
             raise
 
     def _rows(

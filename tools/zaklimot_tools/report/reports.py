@@ -134,7 +134,7 @@ def delays_of(script: Optional[str]) -> Callable[[int], float]:
         if step.name == "frame":
             speed = registers.speed()
             if last and speed:
-                frames[last] += dots // speed[0] * speed[0] / speed[1]
+                frames[last] += dots // speed.dots * speed.dots / speed.clock
             frames[number] = registers.frame()
             last = number
             dots = 0

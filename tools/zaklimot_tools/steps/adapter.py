@@ -7,14 +7,13 @@ import ctypes
 import zlib
 from typing import Any, Callable, Iterable, Mapping, NamedTuple, Optional, Sequence
 
-from zaklimot.format import REFUSALS, Step, decode
+from zaklimot.format import PLANE_BYTES, REFUSALS, REGISTERS, Step, decode
 from zaklimot_tools.core.trouble import Trouble
 
 from .library import structs as s
 from .parts import BDA, BEAM, CURSORS, LINE, Parts
 
 _byref = ctypes.byref
-PLANE_BYTES = 1 << 16
 # The statuses of a call whose room is too short, and of one that is done.
 NO_ROOM = 25
 # Room for a saved state, and for the cycles of a call that touches few places.
@@ -134,7 +133,7 @@ class SteppedCard:
         length = s.SIZE()
         given = (step.block, len(step.block), table, s.MOST_TABLE)
         status = self._calls["int10"](self._at, _byref(registers), *given, _byref(length))
-        answer: Parts = {name: getattr(registers, name) for name in ("ax", "bx", "cx", "dx")}
+        answer: Parts = {name: getattr(registers, name) for name in REGISTERS}
         if length.value:
             answer["block"] = list(table[: length.value])
         return self._told(status, answer)

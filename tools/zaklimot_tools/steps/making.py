@@ -2,7 +2,7 @@
 
 from typing import Any, Iterator, Mapping, Sequence
 
-from zaklimot.format import Step
+from zaklimot.format import REGISTERS, Step
 
 from .adapter import SteppedCard, Taken
 from .chance import Chance
@@ -43,7 +43,7 @@ def element(wish: Wish, parts: Sequence[str], card: SteppedCard, number: int) ->
 def step_member(step: Step) -> Element:
     """The step as a member of an element: its name, and its numbers."""
     if step.name == "int":
-        registers: Parts = dict(zip(("ax", "bx", "cx", "dx"), step.numbers))
+        registers: Parts = dict(zip(REGISTERS, step.numbers))
         return {"int": {**registers, **({"block": list(step.block)} if step.block else {})}}
     return {step.name: list(step.numbers)}
 

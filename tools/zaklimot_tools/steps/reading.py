@@ -7,7 +7,7 @@ import zlib
 from contextlib import nullcontext
 from typing import Any, BinaryIO, ContextManager, Iterable, Iterator, Optional, cast
 
-from zaklimot.format import FORMS, MOST_BLOCK, REFUSALS, Step
+from zaklimot.format import FORMS, MOST_BLOCK, REFUSALS, REGISTERS, Step
 from zaklimot.format.table import READ_BYTE, READ_WORD
 from zaklimot_tools.core.files import name_of
 from zaklimot_tools.core.streams import JsonArray, reading, writing
@@ -39,7 +39,6 @@ MOST_LINE = 1 << 22
 GZIP, LEVEL = b"\x1f\x8b", 9
 # The steps that an element may have; and the parts of a call.
 STEPS = ("out", "outw", "in", "inw", "put", "putw", "get", "getw", "advance", "int", LINE)
-REGISTERS = ("ax", "bx", "cx", "dx")
 BLOCK = "block"
 MOST_PLACES, MOST_DOTS = 1 << 16, 1 << 28
 MOST_SUM = (1 << 32) - 1

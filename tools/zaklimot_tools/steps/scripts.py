@@ -7,8 +7,27 @@ import io
 import zlib
 from typing import Any, Callable, Iterator, NamedTuple, Optional, Sequence
 
-from zaklimot.format import REFUSALS, Answer, Picture, Report, Script, Step, printed, refusal_of
+from zaklimot.format import (
+    PLANE_BYTES,
+    REFUSALS,
+    REGISTERS,
+    Answer,
+    Picture,
+    Report,
+    Script,
+    Step,
+    printed,
+    refusal_of,
+)
 from zaklimot_tools.explain.raster import character_dots, line_characters
+from zaklimot_tools.report.dumps import (
+    DumpedBank,
+    beam_in,
+    bios_data_in,
+    bytes_in,
+    latches_in,
+    registers_in,
+)
 
 from .making import dots_answer
 from .parts import (
@@ -32,7 +51,7 @@ from .reading import step_of
 
 REGISTER_PARTS = ("misc", "seq", "gfx", "crtc", "attr", "dac_index")
 # So many bytes of a plane has a dump, and so many entries the DAC.
-MOST_DUMPED, PLANE_BYTES, PLANES, ENTRIES = 256, 1 << 16, 4, 256
+MOST_DUMPED, PLANES, ENTRIES = 256, 4, 256
 # The words of the beam's dump, and of that of the BIOS data, by the names of the fields.
 BEAM_WORDS = {**{name: name for name in BEAM}, "character": "char"}
 BDA_WORDS = {
@@ -46,7 +65,6 @@ BDA_WORDS = {
     "last_row": "last",
     "height": "height",
 }
-COMPONENTS = {"r": 0, "g": 1, "b": 2}
 
 
 class Dump(NamedTuple):
@@ -82,7 +100,7 @@ def expected_answer(element: Element) -> Optional[str]:
         return None
     if step.name != "int":
         return f"{answer:0{4 if step.name.endswith('w') else 2}X}"
-    registers = " ".join(f"{name}={answer[name]:04X}" for name in ("ax", "bx", "cx", "dx"))
+    registers = " ".join(f"{name}={answer[name]:04X}" for name in REGISTERS)
     return registers + (
         f" block {bytes(answer['block']).hex().upper()}" if "block" in answer else ""
     )
@@ -142,9 +160,9 @@ def _read_dumps(steps: Sequence[Step], answers: Sequence[Answer], state: Parts) 
     for step, answer in zip(steps, answers):
         if step.name == "show plane":
             plane, first, count = step.numbers
-            planes[plane][first : first + count] = bytes.fromhex(answer.answer.partition(": ")[2])
+            planes[plane][first : first + count] = bytes_in(answer.answer)
         elif step.name == "show dac":
-            entries[step.numbers[0]] = list(bytes.fromhex(answer.answer.partition(": ")[2]))
+            entries[step.numbers[0]] = list(bytes_in(answer.answer))
         else:
             told.update(READERS[step.name](answer))
     told["planes"] = [
@@ -159,39 +177,30 @@ def _read_dumps(steps: Sequence[Step], answers: Sequence[Answer], state: Parts) 
 
 
 def _read_registers(answer: Answer) -> Parts:
-    """The parts in the six lines of `show regs`."""
-    words = [line.replace(":", "").split() for line in answer.lines]
-    told: Parts = {"misc": int(words[0][1], 16)}
-    for name, index, *values in words[1:4]:
-        told[f"{name}_index"] = int(index, 16)
-        told[name] = [int(value, 16) for value in values]
-    told["attr_index"] = int(words[4][1], 16)
-    told["attr_is_data"] = int(words[4][2] == "d")
-    told["attr"] = [int(value, 16) for value in words[4][3:]]
-    told["dac_index"], told["dac_component"] = int(words[5][1], 16), COMPONENTS[words[5][2]]
-    told["dac_mask"], *told["dac_waiting"] = (int(value, 16) for value in words[5][3:])
+    """The parts in the lines of `show regs`."""
+    read = registers_in(answer.lines)
+    told: Parts = {"misc": read.misc, "attr_is_data": int(read.is_data)}
+    for name in ("seq", "crtc", "gfx", "attr"):
+        bank: DumpedBank = getattr(read, name)
+        told[f"{name}_index"] = bank.index
+        told[name] = bank.registers
+    told.update({f"dac_{name}": value for name, value in vars(read.dac).items()})
     return told
 
 
 def _read_latches(answer: Answer) -> Parts:
-    return {"latches": list(bytes.fromhex(answer.answer.partition(" ")[2]))}
+    return {"latches": list(latches_in(answer.answer))}
 
 
 def _read_beam(answer: Answer) -> Parts:
-    words = answer.answer.split()
-    bases = {"base": 16}
-    read = {
-        name: int(words[words.index(word) + 1], bases.get(name, 10))
-        for name, word in BEAM_WORDS.items()
-    }
-    return {"beam": read}
+    read = beam_in(answer.answer)
+    return {"beam": {name: read[word] for name, word in BEAM_WORDS.items()}}
 
 
 def _read_bda(answer: Answer) -> Parts:
-    words = answer.answer.split()
-    read: Parts = {name: int(words[words.index(word) + 1], 16) for name, word in BDA_WORDS.items()}
-    at = words.index("at") + 1
-    read[CURSORS] = [int(word, 16) for word in words[at : at + 8]]
+    dumped = bios_data_in(answer.answer)
+    read: Parts = {name: dumped.numbers[word] for name, word in BDA_WORDS.items()}
+    read[CURSORS] = dumped.cursors
     return {"bda": {name: read[name] for name in BDA}}
 
 

@@ -4,7 +4,7 @@ is then."""
 from typing import Iterable, Iterator, Optional
 
 from zaklimot_tools.explain.raster import retrace_start
-from zaklimot_tools.explain.registers import Registers
+from zaklimot_tools.explain.registers import Registers, Speed
 
 from .step import FRAME, WRITES, TraceStep, advances
 
@@ -25,9 +25,9 @@ class Beamed:
     def __init__(self, longest: float) -> None:
         self.longest = longest
         self._registers = Registers()
-        # The dots of a frame, and dots a second; how many of them have passed of the frame under
-        # way, and how many of these the steps so far have let pass.
-        self._speed: Optional[tuple[int, float]] = None
+        # How fast the beam is; how many dots have passed of the frame under way, and how many of
+        # these the steps so far have let pass.
+        self._speed: Optional[Speed] = None
         self._place = 0.0
         self._told = 0
         self._last: Optional[int] = None
@@ -59,7 +59,8 @@ class Beamed:
             if self._speed is not None:
                 yield TraceStep(FRAME)
             self._speed = speed
-            self._place = self._told = 0
+            self._place = 0.0
+            self._told = 0
             self._is_changed = False
         passed = 0 if self._last is None else max(0, now - self._last) / 1e6
         self._last = now
@@ -69,10 +70,10 @@ class Beamed:
             self.shortened += 1
             self.left_out += passed - self.longest
             passed = self.longest
-        self._place += passed * speed[1]
-        self._heed_retrace(step, speed[0])
-        while self._place >= speed[0]:
-            yield from self._ended(speed[0])
+        self._place += passed * speed.clock
+        self._heed_retrace(step, speed.dots)
+        while self._place >= speed.dots:
+            yield from self._ended(speed.dots)
 
     def _ended(self, dots: int) -> Iterator[TraceStep]:
         if self._is_changed:
@@ -99,9 +100,9 @@ class Beamed:
             return
         if not (step.value & RETRACE and not before.value & RETRACE):
             return
-        lines, characters, width = self._registers.banks.shape
+        shape = self._registers.banks.shape
         line = retrace_start(self._registers.banks.crtc.registers)
-        begin = min(line, lines - 1) * characters * width
+        begin = min(line, shape.lines - 1) * shape.characters * shape.dots
         off = (begin - self._place + dots / 2) % dots - dots / 2
         if self._place + off < self._told and -off > dots / MOST_JITTER:
             off += dots

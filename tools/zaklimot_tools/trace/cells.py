@@ -58,7 +58,7 @@ class TextCell(NamedTuple):
 
 def lines_shown(state: State) -> int:
     """How many lines of a frame are displayed."""
-    return min(last_line(state.crtc.registers) + 1, state.shape[0])
+    return min(last_line(state.crtc.registers) + 1, state.shape.lines)
 
 
 def _bases(crtc: tuple[int, ...], lines: int) -> Sequence[int]:
@@ -98,7 +98,7 @@ def _places(state: State, name: str) -> Sequence[Sequence[int]]:
     if is_graphics(state.gfx.registers):
         raise Trouble("it shows graphics then, and no text: `vga-trace screen` shows them", name)
     crtc = state.crtc.registers
-    columns = min(crtc[SHOWN_CHARACTERS] + 1, state.shape[1])
+    columns = min(crtc[SHOWN_CHARACTERS] + 1, state.shape.characters)
     # Where the cursor is makes no difference, and it moves.
     shaping = tuple(0 if at in CURSOR else value for at, value in enumerate(crtc))
     return _offsets(shaping, columns, lines_shown(state))

@@ -55,4 +55,4 @@ class Clocked:
             self.left_out += seconds - self.longest
         speed = self._registers.speed()
         frames = round(min(seconds, self.longest) / self._registers.frame()) - 1
-        yield from advances(0 if speed is None else speed[0] * max(frames, 0))
+        yield from advances(0 if speed is None else speed.dots * max(frames, 0))

@@ -5,13 +5,13 @@ import sys
 from itertools import islice
 from pathlib import Path
 from tempfile import TemporaryDirectory
-from typing import ContextManager, Iterator, Optional, Sequence, Union
+from typing import ContextManager, Iterator, Optional, Sequence, TextIO, Union
 
 from zaklimot.format import Picture
-from zaklimot_tools.core.files import check_folder, files, name_of
+from zaklimot_tools.core.files import STANDARD, check_folder, files, name_of
 from zaklimot_tools.core.processes import check_program
 from zaklimot_tools.core.progress import Progress
-from zaklimot_tools.core.streams import reading, teller, write_name, writing
+from zaklimot_tools.core.streams import reading, write_name, writing
 from zaklimot_tools.core.trouble import AGREED, DIFFERED, Trouble
 from zaklimot_tools.images.png import Animation, Shape, save_png
 from zaklimot_tools.report.report import Report
@@ -44,13 +44,18 @@ def _opened(words: argparse.Namespace) -> ContextManager[Trace]:
     return opened(words.trace, is_whole=words.to is None)
 
 
+def _beside(path: Optional[str]) -> TextIO:
+    """Where to tell of a file that is written: not on standard output if that is the file."""
+    return sys.stderr if path == STANDARD else sys.stdout
+
+
 def convert_trace(words: argparse.Namespace, _: Progress) -> None:
     """Makes a script of a trace."""
     with _opened(words) as trace, writing(words.script) as stream:
         listing = _listing(trace, words)
         written = convert(listing, stream, words.text, words.repeat)
     warn(listing, name_of(words.trace))
-    teller(words.script)(f"{written.line(listing)}\n")
+    print(written.line(listing), file=_beside(words.script))
 
 
 def check_report(words: argparse.Namespace, _: Progress) -> int:
@@ -134,15 +139,15 @@ def _moving(animation: Animation, pictures: Iterator[tuple[Picture, float]]) -> 
 
 def _write_moving(words: argparse.Namespace, animation: Animation) -> None:
     """Writes pictures that move, as APNG and as a video."""
-    tell = teller(words.apng)
+    output = _beside(words.apng)
     told = f"{len(animation.frames)} pictures, {animation.seconds:.3f} seconds"
     if words.apng is not None:
         with writing(words.apng) as stream:
             animation.write(stream)
-        tell(f"{words.apng}: {told}\n")
+        print(f"{words.apng}: {told}", file=output)
     if words.video is not None:
         write_video(words.video, animation)
-        tell(f"{words.video}: {told}\n")
+        print(f"{words.video}: {told}", file=output)
 
 
 def record_software(words: argparse.Namespace, progress: Progress) -> int:
@@ -178,7 +183,7 @@ def _judged_again(words: argparse.Namespace, folder: Path, progress: Progress) -
 def keep_recording(words: argparse.Namespace, _: Progress) -> None:
     """Keeps a recording in one file."""
     size = keep(Path(words.folder), words.output)
-    teller(words.output)(f"{words.output}: {size:,} bytes\n")
+    print(f"{words.output}: {size:,} bytes", file=_beside(words.output))
 
 
 class _OnQemu:

@@ -59,17 +59,18 @@ class Writes:
         self._registers = Registers()
         self._banks = self._registers.banks
 
-    def of(self, step: TraceStep) -> Iterator[tuple[str, str]]:
-        """The places and values that a step writes."""
+    def of(self, step: TraceStep, told: str) -> Iterator[Write]:
+        """What a step writes at the time that is told."""
         if step.opcode == INT and step.call is not None:
             registers = " ".join(f"{value:04X}" for value in step.call.registers)
             self._registers.take(step.step)
-            yield "interrupt 10", f"{registers} {step.call.block.hex().upper()}".rstrip()
+            handed = f"{registers} {step.call.block.hex().upper()}".rstrip()
+            yield Write("interrupt 10", handed, told)
         for port, value in bytes_written(step.step):
             place = self._place(port)
             self._banks.write(port, value)
             if place:
-                yield place, f"{value:02X}"
+                yield Write(place, f"{value:02X}", told)
         if step.is_status:
             self._banks.read_status()
 
@@ -134,7 +135,7 @@ class Recording:
         for step in self.steps(stack):
             # All other steps write none, and most are of memory.
             if step.opcode in PORTS or step.opcode == INT:
-                yield from (Write(*what, self.passed.told) for what in writes.of(step))
+                yield from writes.of(step, self.passed.told)
 
     def items(self, stack: ExitStack) -> Iterator[Item[str]]:
         """The steps, and a frame where nothing was written for a while, and at the end."""
@@ -168,7 +169,7 @@ def _drawn(registers: Registers, told: str) -> Iterator[Item[str]]:
     were."""
     yield Question(FRAME_STEP, told)
     speed = registers.speed()
-    dots = 0 if speed is None else (FRAMES - 1) * speed[0]
+    dots = 0 if speed is None else (FRAMES - 1) * speed.dots
     yield from advances(dots if dots <= MOST_ADVANCE else 0)
 
 

@@ -126,7 +126,7 @@ class Pauses:
         owed = self._owed
         self._owed = 0
         speed = self._registers.speed()
-        return 0 if speed is None else min(int(owed * speed[1] / 1_000_000), speed[0])
+        return 0 if speed is None else min(int(owed * speed.clock / 1_000_000), speed.dots)
 
 
 def with_flips(steps: Iterable[TraceStep]) -> Iterator[TraceStep]:

@@ -8,7 +8,7 @@ from __future__ import annotations
 from functools import partial
 from math import prod
 from operator import and_, or_, xor
-from typing import Callable, Iterable, Iterator, Optional, Sequence, TypeVar
+from typing import Callable, Iterable, Iterator, NamedTuple, Optional, Sequence, TypeVar
 
 from zaklimot.format import PLANE_BYTES
 from zaklimot_tools.explain.banks import (
@@ -28,7 +28,7 @@ from zaklimot_tools.explain.banks import (
     STATUS,
     WINDOWS,
     Banks,
-    Shape,
+    FrameShape,
 )
 
 from .step import ADVANCE, FRAME, GET, GETW, IN, INW, OUT, OUTW, PUT, PUTW, READS, WORDS, TraceStep
@@ -249,9 +249,16 @@ class Dac:
         self.index = (self.index + (self.next == 0)) % ENTRIES
 
 
+class BeamPlace(NamedTuple):
+    """The line of a frame, the character of the line, and the dot of the character."""
+
+    line: int = 0
+    character: int = 0
+    dot: int = 0
+
+
 class Beam:
-    """Where the next dot is: its frame, and in it the line, the character of the line, and the dot
-    of the character.
+    """Where the next dot is: its frame, and its place in that.
 
     A place that registers have since left outside is as good as the last one: what it is in ends
     with the next dot.
@@ -259,7 +266,7 @@ class Beam:
 
     def __init__(self) -> None:
         self.frame = 0
-        self.place = (0, 0, 0)
+        self.place = BeamPlace()
         # What was taken of the registers at the first dot of the frame under way.
         self.taken = dict.fromkeys(TAKEN, 0)
 
@@ -268,28 +275,30 @@ class Beam:
         """Whether the next dot is a frame's first."""
         return not any(self.place)
 
-    def drawn(self, shape: Shape) -> int:
+    def drawn(self, shape: FrameShape) -> int:
         """The dots of the frame under way that are drawn; of a place that is outside, those up to
         the last one inside."""
-        line, character, dot = (min(at, most - 1) for at, most in zip(self.place, shape))
-        return (line * shape[1] + character) * shape[2] + dot
+        inside = BeamPlace(*(min(at, most - 1) for at, most in zip(self.place, shape)))
+        return (inside.line * shape.characters + inside.character) * shape.dots + inside.dot
 
-    def advance(self, count: int, shape: Shape, crtc: Sequence[int]) -> None:
+    def advance(self, count: int, shape: FrameShape, crtc: Sequence[int]) -> None:
         """Goes on by so many dots. The line and the character stay as they are, inside or outside,
         until they end."""
-        _, characters, dots = shape
-        (line, character, dot) = self.place
+        characters = shape.characters
+        dots = shape.dots
+        line, character, dot = self.place
         was_at_begin = self.is_at_begin
         begin = self.drawn(shape)
         end = begin + count
         frames = 0
         if end // dots == begin // dots:
-            self.place = line, character, dot + count
+            self.place = BeamPlace(line, character, dot + count)
         elif end // (dots * characters) == begin // (dots * characters):
-            self.place = line, character + end // dots - begin // dots, end % dots
+            self.place = BeamPlace(line, character + end // dots - begin // dots, end % dots)
         else:
             frames, rest = divmod(end, prod(shape))
-            self.place = rest // (dots * characters), rest // dots % characters, rest % dots
+            line = rest // (dots * characters)
+            self.place = BeamPlace(line, rest // dots % characters, rest % dots)
         if (was_at_begin or frames) and not self.is_at_begin:
             self.taken = {index: crtc[index] for index in TAKEN}
         self.frame = (self.frame + frames) % FRAMES
@@ -297,7 +306,7 @@ class Beam:
     def end_frame(self) -> None:
         """Goes on to the end of the frame."""
         self.frame = (self.frame + 1) % FRAMES
-        self.place = (0, 0, 0)
+        self.place = BeamPlace()
 
 
 def rebuilt(state: State, calls: Sequence[TraceStep] = ()) -> Iterator[TraceStep]:

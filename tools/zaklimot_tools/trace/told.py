@@ -7,17 +7,22 @@ from typing import Callable, Iterator, Sequence
 from zaklimot.format import PLANE_BYTES, Answer, Step
 from zaklimot_tools.core.trouble import Trouble
 from zaklimot_tools.explain.banks import Bank
+from zaklimot_tools.report.dumps import (
+    CURSORS,
+    DumpedBank,
+    beam_in,
+    bios_data_in,
+    bytes_in,
+    latches_in,
+    registers_in,
+)
 
-from .state import COMPONENTS, ENTRIES, PLANES, State
+from .state import COMPONENTS, ENTRIES, PLANES, BeamPlace, State
 
 # So many bytes of a plane are shown at once.
 SHOWN_BYTES = 256
-# How the lines of `show regs` begin, in their order.
-REGISTERS = ("misc", "seq", "crtc", "gfx", "attr", "dac")
 # The first words of the answers that show all of a part of the adapter.
 WHOLE = ("misc", "beam", "latches", "bda")
-# What comes next of the DAC, and of the attribute controller.
-NEXT_COMPONENT, NEXT_DATA = "rgb", "d"
 
 
 @dataclass(frozen=True)
@@ -27,7 +32,7 @@ class BiosData:
 
     mode: int = 0
     start: int = 0
-    at: tuple[int, ...] = (0,) * 8
+    at: tuple[int, ...] = (0,) * CURSORS
     type: int = 0
     page: int = 0
     height: int = 0
@@ -85,68 +90,61 @@ class Told:
 
 def _take_registers(told: Told, lines: Sequence[str]) -> None:
     state = told.state
-    words = {name: rest.split() for name, _, rest in (line.partition(" ") for line in lines)}
-    if tuple(words) != REGISTERS:
-        raise ValueError
-    state.misc = int(words["misc"][0], 16)
-    is_data = words["attr"].pop(1).rstrip(":") == NEXT_DATA
+    read = registers_in(lines)
+    state.misc = read.misc
     for name in ("seq", "crtc", "gfx", "attr"):
         bank: Bank = getattr(state, name)
-        index, *values = (int(word.rstrip(":"), 16) for word in words[name])
-        if len(values) != bank.count:
+        dumped: DumpedBank = getattr(read, name)
+        if len(dumped.registers) != bank.count:
             raise ValueError
-        bank.index = index
+        bank.index = dumped.index
         # The list stays: memory reads it as well.
-        bank.registers[:] = values
-    state.is_data = is_data
+        bank.registers[:] = dumped.registers
+    state.is_data = read.is_data
     dac = state.dac
-    entry, following, mask, *waiting = words["dac"]
-    dac.index, dac.next, dac.mask = int(entry, 16), NEXT_COMPONENT.index(following), int(mask, 16)
-    dac.waiting = [int(one, 16) for one in waiting]
+    dac.index = read.dac.index
+    dac.next = read.dac.component
+    dac.mask = read.dac.mask
+    dac.waiting = read.dac.waiting
 
 
 def _take_entry(told: Told, lines: Sequence[str]) -> None:
-    front, _, values = lines[0].partition(": ")
+    front = lines[0].partition(": ")[0]
     at = COMPONENTS * int(front.split(" ")[1], 16)
-    told.state.dac.components[at : at + COMPONENTS] = list(bytes.fromhex(values))
+    told.state.dac.components[at : at + COMPONENTS] = list(bytes_in(lines[0]))
 
 
 def _take_beam(told: Told, lines: Sequence[str]) -> None:
-    words = lines[0].split(" ")
-    named = dict(zip(words[1::2], words[2::2]))
+    named = beam_in(lines[0])
     beam = told.state.beam
-    beam.frame = int(named["frame"])
-    beam.place = int(named["line"]), int(named["char"]), int(named["dot"])
+    beam.frame = named["frame"]
+    beam.place = BeamPlace(named["line"], named["char"], named["dot"])
 
 
 def _take_latches(told: Told, lines: Sequence[str]) -> None:
-    told.state.memory.latches = int.from_bytes(
-        bytes.fromhex("".join(lines[0].split(" ")[1:])), "little"
-    )
+    told.state.memory.latches = int.from_bytes(latches_in(lines[0]), "little")
 
 
 def _take_plane(told: Told, lines: Sequence[str]) -> None:
-    front, _, values = lines[0].partition(": ")
+    front = lines[0].partition(": ")[0]
     _, plane, offset = front.split(" ")
     shift = 8 * int(plane)
     words = told.state.memory.words
     kept = ~(0xFF << shift)
-    for at, value in enumerate(bytes.fromhex(values), int(offset, 16)):
+    for at, value in enumerate(bytes_in(lines[0]), int(offset, 16)):
         words[at] = words[at] & kept | value << shift
 
 
 def _take_bios_data(told: Told, lines: Sequence[str]) -> None:
-    words = lines[0].split(" ")
-    at = words.index("at")
-    named = dict(zip(words[1:at:2], words[2:at:2]))
-    named.update(zip(words[at + 9 :: 2], words[at + 10 :: 2]))
+    read = bios_data_in(lines[0])
+    named = read.numbers
     told.bios = BiosData(
-        int(named["mode"], 16),
-        int(named["start"], 16),
-        tuple(int(word, 16) for word in words[at + 1 : at + 9]),
-        int(named["type"], 16),
-        int(named["page"], 16),
-        int(named["height"], 16),
+        mode=named["mode"],
+        start=named["start"],
+        at=tuple(read.cursors),
+        type=named["type"],
+        page=named["page"],
+        height=named["height"],
     )
 
 
