@@ -14,7 +14,7 @@ from unittest import mock
 from xml.etree import ElementTree
 
 from zaklimot_tools.steps.asking import asked_adapter
-from zaklimot_tools.steps.checking import Branches, HeldFile, ranked
+from zaklimot_tools.steps.checking import BranchCounts, BranchName, Branches, HeldFile, ranked
 from zaklimot_tools.steps.parts import FINAL
 from zaklimot_tools.steps.reading import read_elements
 
@@ -111,7 +111,8 @@ class Faults(Made):
 
     def test_a_few_elements_say_less_than_many(self) -> None:
         few, many = HeldFile("few"), HeldFile("many")
-        few.counts, many.counts = {("a", "b"): [0, 1]}, {("c", "d"): [1, 17]}
+        few.counts[BranchName("a", "b")] = BranchCounts(0, 1)
+        many.counts[BranchName("c", "d")] = BranchCounts(1, 17)
         self.assertEqual(ranked([few, many])[0], Branches("c", "d", 1, 17))
 
     def test_a_rule_is_blamed_for_what_it_governs_alone(self) -> None:

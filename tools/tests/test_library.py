@@ -183,11 +183,11 @@ class Made(Folder):
 
     def test_the_same_sources_and_others(self) -> None:
         self.assertIsNone(making.kept("llvm", X86_64))
-        kept = making.keep("llvm", X86_64, *self.parts)
+        kept = making.keep("llvm", X86_64, making.LibraryParts(*self.parts))
         self.assertEqual([path.read_text() for path in kept], ["one.a", "two.a"])
         self.assertIsNone(making.kept("rattle", X86_64))
         # Another source, another archive, and one source more.
-        for path in (self.low, kept[0], self.low.with_name("more.rt")):
+        for path in (self.low, kept.crates, self.low.with_name("more.rt")):
             self.assertEqual(making.kept("llvm", X86_64), kept)
             before = path.read_text() if path.exists() else None
             path.write_text("changed")

@@ -176,10 +176,10 @@ def _ending_at_signals() -> Iterator[None]:
     came: list[int] = []
 
     def end(number: int, _: object) -> None:
-        # The user's own, by Ctrl-C, raises what Python raises for it.
         came.append(number)
         for other in heeded:
             signal.signal(other, signal.SIG_IGN)
+        # The user's own, by Ctrl-C, raises what Python raises for it.
         if number == signal.SIGINT:
             raise KeyboardInterrupt
         raise Ended(number)

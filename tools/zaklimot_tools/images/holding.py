@@ -81,10 +81,22 @@ def _fitted(picture: Picture, image: Image) -> Optional[tuple[Image, str]]:
     return image, ", ".join(told)
 
 
-def _best(
-    picture: Picture, image: Image, tolerance: Within
-) -> tuple[Picture, Optional[DifferentDots], str]:
-    """The image in six bits a component, where it differs, and how its components were read."""
+class ReadImage(NamedTuple):
+    """An image in six bits a component, where it differs from a picture, and how its components
+    were read."""
+
+    picture: Picture
+    difference: Optional[DifferentDots]
+    told: str
+
+    @property
+    def differing(self) -> int:
+        """How many dots differ."""
+        return 0 if self.difference is None else self.difference.count
+
+
+def _best(picture: Picture, image: Image, tolerance: Within) -> ReadImage:
+    """The image as it is nearest to the picture."""
     found = []
     largest = max(max(row) for row in image.rows)
     for is_possible, shift, told in (
@@ -94,8 +106,8 @@ def _best(
         if is_possible:
             read = image.picture(shift)
             read = _eased(picture, read, tolerance) if tolerance else read
-            found.append((read, different_dots(picture, read), told))
-    return min(found, key=lambda entry: entry[1].count if entry[1] else 0)
+            found.append(ReadImage(read, different_dots(picture, read), told))
+    return min(found, key=lambda read: read.differing)
 
 
 class Held(NamedTuple):
@@ -129,7 +141,7 @@ def held(picture: Picture, image: Image, tolerance: Within = 0) -> Held:
     if fitted is None:
         return _of_other_size(picture, image.width, image.height)
     image, told = fitted
-    read, difference, bits = _best(picture, image, tolerance)
+    read = _best(picture, image, tolerance)
     eased = f"within {tolerance}" if tolerance else ""
-    how = ", ".join(part for part in (picture.size, told, bits, eased) if part)
-    return Held(0 if difference is None else difference.count, how, told_dots(picture, read), read)
+    how = ", ".join(part for part in (picture.size, told, read.told, eased) if part)
+    return Held(read.differing, how, told_dots(picture, read.picture), read.picture)

@@ -36,7 +36,8 @@ class Shape(NamedTuple):
     def size(self, width: int, height: int) -> tuple[int, int]:
         """The width and the height that a picture of this size gets. No dot is lost."""
         given = f"{width}x{height}"
-        width, height = width * self.scale, height * self.scale
+        width *= self.scale
+        height *= self.scale
         if self.is_monitor and 3 * width > 4 * height:
             height = (3 * width + 2) // 4
         elif self.is_monitor:
@@ -115,7 +116,8 @@ def write_png(
     height = picture.height
     rows = _rows(picture)
     if other is not None:
-        width, height = max(width, other.width), max(height, other.height)
+        width = max(width, other.width)
+        height = max(height, other.height)
         rows = (_marked_row(picture, other, width, y) for y in range(height))
     size = shape.size(width, height)
     stream.write(_head(*size))
@@ -132,6 +134,14 @@ def save_png(
         write_png(stream, picture, shape, other)
 
 
+class PackedFrame(NamedTuple):
+    """A frame that moves: its packed rows, and how long it lasts, as so many parts of a second."""
+
+    rows: bytes
+    time: int
+    part: int
+
+
 class Animation:
     """Frames of one size: that of the first, or a size that is given, to which each picture is
     stretched."""
@@ -142,8 +152,7 @@ class Animation:
         self._size = (0, 0)
         self._first = ""
         self.seconds = 0.0
-        # Each frame's packed rows, and how long it lasts as a fraction.
-        self.frames: list[tuple[bytes, int, int]] = []
+        self.frames: list[PackedFrame] = []
 
     def add(self, picture: Picture, seconds: float, name: str) -> None:
         """Adds a frame, which is to have the size of the first."""
@@ -158,7 +167,7 @@ class Animation:
         self._first = self._first or name
         packed = b"".join(_packed(_rows(picture), given, size))
         part = SHORT if seconds < 1 else LONG
-        self.frames.append((packed, min(MOST_NUMBER, round(seconds * part)), part))
+        self.frames.append(PackedFrame(packed, min(MOST_NUMBER, round(seconds * part)), part))
         self.seconds += seconds
 
     def write(self, stream: BinaryIO) -> None:

@@ -89,18 +89,26 @@ def size_of(data: bytes, name: str) -> tuple[int, int]:
         width, height = struct.unpack_from(">II", data, HEAD_AT)
         return int(width), int(height)
     if data.startswith(PPM_BEGINS):
-        width, height, _ = _ppm_head(data, name)[0]
-        return width, height
+        head = _ppm_head(data, name)
+        return head.width, head.height
     return others.size_of(others.opened(_pillow(name), data, name))
 
 
-def _ppm_head(data: bytes, name: str) -> tuple[tuple[int, int, int], int]:
+class PpmHead(NamedTuple):
     """Width, height and the most of a component of a PPM, and where its dots begin."""
+
+    width: int
+    height: int
+    most: int
+    end: int
+
+
+def _ppm_head(data: bytes, name: str) -> PpmHead:
     found = PPM.match(data)
     if found is None:
         raise Trouble("the header of the PPM is damaged", name)
-    width, height, most = (int(number) for number in found.groups())
-    return (width, height, most), found.end()
+    width, height, most = map(int, found.groups())
+    return PpmHead(width, height, most, found.end())
 
 
 def _check_dots(width: int, height: int, most: int, name: str) -> None:
@@ -132,7 +140,7 @@ def _other(data: bytes, name: str, most: int, ground: Optional[bytes], told: str
 
 
 def _ppm(data: bytes, name: str, most_dots: int) -> Image:
-    (width, height, most), begin = _ppm_head(data, name)
+    width, height, most, begin = _ppm_head(data, name)
     _check_dots(width, height, most_dots, name)
     if most not in (63, 255):
         raise Trouble(f"the components go to {most}; 63 and 255 can be read", name)

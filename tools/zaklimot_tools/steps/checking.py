@@ -3,6 +3,8 @@ the elements show."""
 
 import argparse
 import json
+from collections import defaultdict
+from dataclasses import dataclass
 from typing import Iterator, NamedTuple, Optional
 from xml.etree import ElementTree
 
@@ -25,6 +27,21 @@ FEW = 4
 NO_STATE = "final: the answer has none of its parts"
 BY_NAME = {rule.name: rule for rule in RULES}
 NUMBERS = {rule.name: number for number, rule in enumerate(RULES)}
+
+
+class BranchName(NamedTuple):
+    """A branch of a rule, by the names of both; without a name it is the rule as a whole."""
+
+    rule: str
+    branch: str
+
+
+@dataclass
+class BranchCounts:
+    """How many elements agree, and how many differ."""
+
+    agree: int = 0
+    differ: int = 0
 
 
 class Branches(NamedTuple):
@@ -65,7 +82,7 @@ class HeldFile:
         self.agree = self.differ = self.skipped = 0
         self.first: Optional[FirstDiffering] = None
         self.left_out: dict[str, int] = {}
-        self.counts: dict[tuple[str, str], list[int]] = {}
+        self.counts: defaultdict[BranchName, BranchCounts] = defaultdict(BranchCounts)
 
     def judge(self, element: Element, given: Element, number: int) -> None:
         """Counts an element by what an adapter answered."""
@@ -86,12 +103,13 @@ class HeldFile:
 
     def _count(self, element: Element, members: set[str]) -> None:
         """Counts an element that differs in these members for the rules that it shows."""
-        branches = [(rule.name, branch) for rule, branch in branches_shown(element)]
-        shown = {*branches, *((name, "") for name, _ in branches)}
-        for key in sorted(shown, key=lambda key: NUMBERS[key[0]]):
-            governs = BY_NAME[key[0]].governs
+        branches = [BranchName(rule.name, branch) for rule, branch in branches_shown(element)]
+        shown = {*branches, *(BranchName(one.rule, "") for one in branches)}
+        for one in sorted(shown, key=lambda one: (NUMBERS[one.rule], one.branch)):
+            governs = BY_NAME[one.rule].governs
             is_wrong = bool(members & {*governs} if governs else members)
-            self.counts.setdefault(key, [0, 0])[is_wrong] += 1
+            self.counts[one].agree += not is_wrong
+            self.counts[one].differ += is_wrong
 
     def skip(self) -> None:
         """Counts an element that isn't asked for."""
@@ -128,12 +146,14 @@ class HeldFile:
 
 def ranked(held: list[HeldFile]) -> list[Branches]:
     """The branches that the elements of files show, those first for which most speaks."""
-    counts: dict[tuple[str, str], list[int]] = {}
-    for key, pair in ((key, pair) for file in held for key, pair in file.counts.items()):
-        total = counts.setdefault(key, [0, 0])
-        total[0] += pair[0]
-        total[1] += pair[1]
-    found = [Branches(*key, *pair) for key, pair in counts.items()]
+    counts: defaultdict[BranchName, BranchCounts] = defaultdict(BranchCounts)
+    for name, of_file in (one for file in held for one in file.counts.items()):
+        counts[name].agree += of_file.agree
+        counts[name].differ += of_file.differ
+    found = [
+        Branches(name.rule, name.branch, count.agree, count.differ)
+        for name, count in counts.items()
+    ]
     return sorted(found, key=lambda one: (-one.weight, -one.differ))
 
 

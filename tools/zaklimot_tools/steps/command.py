@@ -162,7 +162,7 @@ def coverage(words: argparse.Namespace, progress: Progress) -> int:
         write(json.dumps({"files": [one._asdict() for one in counts], "rules": table}) + "\n")
     else:
         write("".join(f"{line}\n" for line in _coverage_lines(table, words.least)))
-    few = sum(share < words.least for rule in table.values() for _, share in rule.values())
+    few = sum(best.share < words.least for rule in table.values() for best in rule.values())
     if not words.json:
         total = sum(map(len, table.values()))
         kept = f"{len(table)} rules with {total} branches, {few} of them below {words.least}"
@@ -180,23 +180,30 @@ def _counts(words: argparse.Namespace, progress: Progress) -> list[CountedFile]:
     return [CountedFile(**json.loads(done.output)["files"][0]) for done in found]
 
 
-def _best(counts: list[CountedFile], rule: str, branch: str) -> tuple[str, float]:
+class BestShare(NamedTuple):
     """The file that shows a branch most often, and how many of 10,000 of its elements do."""
-    best: tuple[str, float] = ("", 0.0)
+
+    file: str
+    share: float
+
+
+def _best(counts: list[CountedFile], rule: str, branch: str) -> BestShare:
+    best = BestShare("", 0.0)
     for one in counts:
         share = one.share(rule, branch)
-        best = (one.file, share) if share > best[1] else best
+        best = BestShare(one.file, share) if share > best.share else best
     return best
 
 
-def _coverage_lines(table: dict[str, dict[str, tuple[str, float]]], least: int) -> Iterator[str]:
+def _coverage_lines(table: dict[str, dict[str, BestShare]], least: int) -> Iterator[str]:
     """The table as lines: each rule with its place, and each branch with its share."""
     for rule in RULES:
         yield f"{rule.name} ({rule.place})"
-        yield from (_branch_line(branch, *best, least) for branch, best in table[rule.name].items())
+        yield from (_branch_line(branch, best, least) for branch, best in table[rule.name].items())
 
 
-def _branch_line(branch: str, name: str, share: float, least: int) -> str:
+def _branch_line(branch: str, best: BestShare, least: int) -> str:
     """A branch, how often a file shows it, and which; it is marked if that is too seldom."""
-    mark = "!" if share < least else " "
-    return f" {mark} {share:7.0f}  {branch}" + (f"  [{Path(name).name}]" if name else "")
+    mark = "!" if best.share < least else " "
+    file = f"  [{Path(best.file).name}]" if best.file else ""
+    return f" {mark} {best.share:7.0f}  {branch}{file}"

@@ -117,15 +117,29 @@ def text_lines(element: Element) -> Iterator[str]:
 # Dumps: what the steps `show` tell of a state.
 
 
-def _runs(places: Sequence[int], most: int) -> list[tuple[int, int]]:
-    """Places that follow one another, as first ones and counts."""
-    runs: list[tuple[int, int]] = []
+class PlaceRun(NamedTuple):
+    """Places that follow one another: the first of them, and how many they are."""
+
+    first: int
+    length: int
+
+
+class DumpedPlaces(NamedTuple):
+    """What is dumped of the planes, and which entries of the DAC."""
+
+    planes: list[PlaceRun]
+    entries: list[int]
+
+
+def _runs(places: Sequence[int], most: int) -> list[PlaceRun]:
+    """Places as runs of so many at most."""
+    runs: list[PlaceRun] = []
     for place in places:
-        first, count = runs[-1] if runs else (-1, 0)
-        if runs and place == first + count and count < most:
-            runs[-1] = (first, count + 1)
+        last = runs[-1] if runs else PlaceRun(-1, 0)
+        if runs and place == last.first + last.length and last.length < most:
+            runs[-1] = PlaceRun(last.first, last.length + 1)
         else:
-            runs.append((place, 1))
+            runs.append(PlaceRun(place, 1))
     return runs
 
 
@@ -135,21 +149,21 @@ def dump_of(state: Parts) -> Dump:
     if any(name in state for name in (*NUMBERS, *REGISTER_PARTS, "dac_waiting")):
         steps.append(Step("show regs"))
     steps += [Step(f"show {name}") for name in ("latches", "beam", "bda") if name in state]
-    planes, entries = _dumped_places(state)
-    for first, count in planes:
-        steps += [Step("show plane", (plane, first, count)) for plane in range(PLANES)]
-    steps += [Step("show dac", (entry,)) for entry in entries]
+    places = _dumped_places(state)
+    for run in places.planes:
+        steps += [Step("show plane", (plane, *run)) for plane in range(PLANES)]
+    steps += [Step("show dac", (entry,)) for entry in places.entries]
     return Dump(steps, lambda answers: _read_dumps(steps, answers, state))
 
 
-def _dumped_places(state: Parts) -> tuple[list[tuple[int, int]], list[int]]:
+def _dumped_places(state: Parts) -> DumpedPlaces:
     """What is dumped of planes and DAC: all of both for the sums."""
     if SUMS in state:
-        return [(first, MOST_DUMPED) for first in range(0, PLANE_BYTES, MOST_DUMPED)], [
-            *range(ENTRIES)
-        ]
+        planes = [PlaceRun(first, MOST_DUMPED) for first in range(0, PLANE_BYTES, MOST_DUMPED)]
+        return DumpedPlaces(planes, [*range(ENTRIES)])
     offsets = [place[0] for place in state.get("planes", ())]
-    return _runs(offsets, MOST_DUMPED), [place[0] for place in state.get("colours", ())]
+    entries = [place[0] for place in state.get("colours", ())]
+    return DumpedPlaces(_runs(offsets, MOST_DUMPED), entries)
 
 
 def _read_dumps(steps: Sequence[Step], answers: Sequence[Answer], state: Parts) -> Parts:
@@ -222,7 +236,8 @@ class Confirmed(NamedTuple):
 
 def confirming(element: Element) -> Confirmed:
     """The script of an element with the dumps of the state before and after its step."""
-    before, after = dump_of(element[INITIAL]), dump_of(element[FINAL])
+    before = dump_of(element[INITIAL])
+    after = dump_of(element[FINAL])
     steps = [*reached(element), *before.steps, scripted(element), *after.steps]
     is_line = LINE in element
     at = len(steps) - len(after.steps) - 1

@@ -17,15 +17,25 @@ from .wishes import ElementKind, Wish
 TEXTS, PLANAR_MODES, PACKED_MODES = (3, 7), (0x0D, 0x10, 0x12), (0x13,)
 PIXELS = (*PLANAR_MODES, *PACKED_MODES)
 MODES = (*TEXTS, *PIXELS)
-# Columns, last row, and pages of the modes; and width and height in dots.
+
+
+class ModeShape(NamedTuple):
+    """The columns of a mode, its last row, and its pages."""
+
+    columns: int
+    last_row: int
+    pages: int
+
+
 SHAPES = {
-    3: (80, 24, 8),
-    7: (80, 24, 8),
-    0x0D: (40, 24, 8),
-    0x10: (80, 24, 2),
-    0x12: (80, 29, 1),
-    0x13: (40, 24, 1),
+    3: ModeShape(80, 24, 8),
+    7: ModeShape(80, 24, 8),
+    0x0D: ModeShape(40, 24, 8),
+    0x10: ModeShape(80, 24, 2),
+    0x12: ModeShape(80, 29, 1),
+    0x13: ModeShape(40, 24, 1),
 }
+# The width and the height of pictures.
 DOTS = {0x0D: (320, 200), 0x10: (640, 350), 0x12: (640, 480), 0x13: (320, 200)}
 # The last row of text in characters of so many lines.
 LAST_ROWS = {16: 24, 14: 27, 8: 49}
@@ -69,16 +79,16 @@ Choice = Callable[[Chance, Parts], Called]
 
 
 def _last_row(bda: Parts) -> int:
-    return LAST_ROWS[bda["height"]] if bda["mode"] in TEXTS else SHAPES[bda["mode"]][1]
+    return LAST_ROWS[bda["height"]] if bda["mode"] in TEXTS else SHAPES[bda["mode"]].last_row
 
 
 def _pages(bda: Parts) -> int:
-    return 4 if bda["mode"] in TEXTS and bda["height"] != 16 else SHAPES[bda["mode"]][2]
+    return 4 if bda["mode"] in TEXTS and bda["height"] != 16 else SHAPES[bda["mode"]].pages
 
 
 def _place(chance: Chance, bda: Parts) -> int:
     """A cursor position: in the page more often than not, at its last row and column often."""
-    columns = SHAPES[bda["mode"]][0]
+    columns = SHAPES[bda["mode"]].columns
     last = _last_row(bda)
     row = last if chance.one_in(4) else chance.below(last + 1)
     column = chance.among((0, columns - 1)) if chance.one_in(3) else chance.below(columns)
@@ -127,11 +137,14 @@ def _choose_05(chance: Chance, bda: Parts) -> Called:
 
 def _window(chance: Chance, bda: Parts) -> tuple[int, int]:
     """The corners of a window: a small one, or one that is cut, or none at all."""
-    columns = SHAPES[bda["mode"]][0]
+    columns = SHAPES[bda["mode"]].columns
     last = _last_row(bda)
-    tall, wide = chance.between(1, 3), chance.between(1, 4)
-    row, column = chance.below(last - tall + 2), chance.below(columns - wide + 1)
-    low, right = row + tall - 1, column + wide - 1
+    tall = chance.between(1, 3)
+    wide = chance.between(1, 4)
+    row = chance.below(last - tall + 2)
+    column = chance.below(columns - wide + 1)
+    low = row + tall - 1
+    right = column + wide - 1
     kind = chance.below(24)
     if kind == 0:
         row, low, right = last - 1, 0xFF, min(right, columns - 1)

@@ -53,7 +53,7 @@ def _cursor(e: SeenElement) -> tuple[int, int]:
 
 
 def _columns(e: SeenElement) -> int:
-    return SHAPES[e.bda["mode"]][0]
+    return SHAPES[e.bda["mode"]].columns
 
 
 def _typed(e: SeenElement, character: int) -> bool:

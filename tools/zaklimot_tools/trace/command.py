@@ -130,7 +130,7 @@ def _moving(animation: Animation, pictures: Iterator[tuple[Picture, float]]) -> 
     size = 0
     for number, (picture, lasts) in enumerate(pictures, 1):
         animation.add(picture, lasts, f"picture {number}")
-        size += len(animation.frames[-1][0])
+        size += len(animation.frames[-1].rows)
         if size > MOST_PACKED:
             told = f"more than {MOST_PACKED:,} bytes: --from and --to take a part of the trace"
             raise Trouble(f"the pictures take {told}")

@@ -17,6 +17,7 @@ from zaklimot_tools.script.crates import phases
 from .making import (
     MOVING,
     TARGETS,
+    LibraryParts,
     Place,
     Target,
     built_archive,
@@ -38,18 +39,19 @@ def check_given(*paths: Optional[str]) -> None:
 
 def _parts(
     words: argparse.Namespace, target: Target, takes_made: bool, progress: Progress, folder: Path
-) -> tuple[Path, Path]:
+) -> LibraryParts:
     """The crate's archive, given, or made before of the same sources, or proved and built now; its
     memory's part."""
     if words.archive is not None:
-        return Path(words.archive), memory_part(target, folder)
+        return LibraryParts(Path(words.archive), memory_part(target, folder))
     found = kept(words.backend, target) if takes_made else None
     if found is not None:
         return found
     heard = phases(progress)("proving and building the library")
-    parts = built_archive(words.backend, target, heard), memory_part(target, folder)
+    archive = built_archive(words.backend, target, heard)
+    parts = LibraryParts(archive, memory_part(target, folder))
     progress.clear()
-    return keep(words.backend, target, *parts)
+    return keep(words.backend, target, parts)
 
 
 def _lay(

@@ -337,29 +337,36 @@ def made_of(backend: str, target: Target, parts: Iterable[Path]) -> str:
     return f"backend {backend}\n" + "".join(lines)
 
 
-def _parts(target: Target) -> tuple[Path, Path]:
-    return FOLDER / target.name / CRATES, FOLDER / target.name / MEMORY
+class LibraryParts(NamedTuple):
+    """What a library is made of: the crate's archive, and the functions that take its memory."""
+
+    crates: Path
+    memory: Path
 
 
-def keep(backend: str, target: Target, crates: Path, memory: Path) -> tuple[Path, Path]:
+def _parts(target: Target) -> LibraryParts:
+    return LibraryParts(FOLDER / target.name / CRATES, FOLDER / target.name / MEMORY)
+
+
+def keep(backend: str, target: Target, made: LibraryParts) -> LibraryParts:
     """Keeps both parts, and answers where."""
     parts = _parts(target)
-    told = parts[0].with_name(MADE_OF)
+    told = parts.crates.with_name(MADE_OF)
     told.parent.mkdir(parents=True, exist_ok=True)
     told.unlink(missing_ok=True)
-    for source, place in zip((crates, memory), parts):
+    for source, place in zip(made, parts):
         shutil.copyfile(source, place)
     told.write_text(made_of(backend, target, parts), "utf-8")
     return parts
 
 
-def kept(backend: str, target: Target) -> Optional[tuple[Path, Path]]:
+def kept(backend: str, target: Target) -> Optional[LibraryParts]:
     """Both parts, where they were made by this compiler of these sources; else None."""
     parts = _parts(target)
     try:
         return (
             parts
-            if parts[0].with_name(MADE_OF).read_text("utf-8") == made_of(backend, target, parts)
+            if parts.crates.with_name(MADE_OF).read_text("utf-8") == made_of(backend, target, parts)
             else None
         )
     except FileNotFoundError:
