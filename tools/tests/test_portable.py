@@ -141,7 +141,8 @@ class Cache(Folder):
 class Compiled(Cache):
     def test_once_and_it_is_told(self) -> None:
         path, said = self.found()
-        self.assertEqual(said, portable.COMPILES.format(self.environment["CC"]))
+        given = {"compiler": self.environment["CC"], "told": "the program vga", "kind": "program"}
+        self.assertEqual(said, portable.COMPILES.format(**given))
         self.assertRegex(
             said, r"^\S+ compiles .* in about 20 seconds, and once: .* is tested, not proved\n$"
         )

@@ -8,7 +8,7 @@ import os
 import signal
 import sys
 from contextlib import contextmanager
-from typing import Any, Callable, IO, Iterator, NamedTuple, Optional, Sequence
+from typing import TYPE_CHECKING, Any, Callable, IO, Iterator, NamedTuple, Optional, Sequence
 
 from .files import files, files_of_run
 from .progress import Progress
@@ -72,6 +72,13 @@ def tool_parser(
     return made
 
 
+if TYPE_CHECKING:
+    # The commands of a tool, to which `command` adds one.
+    Commands = argparse._SubParsersAction[argparse.ArgumentParser]
+else:
+    Commands = argparse._SubParsersAction
+
+
 class Rule(NamedTuple):
     """What an option asks of the words beside it: where it is given and the words break the rule,
     the reason ends the work. A reason may have words in it, by their names in braces."""
@@ -128,11 +135,11 @@ class later:
 
 
 def command(
-    commands: Any, name: str, job: Job, told: str, example: str, note: str = "", **given: Any
+    commands: Commands, name: str, job: Job, told: str, example: str, note: str = "", **given: Any
 ) -> argparse.ArgumentParser:
     """Adds a command, which does a job, to those of a tool. Its help ends with a note, if there is
     one, and an example of its use."""
-    made: argparse.ArgumentParser = commands.add_parser(
+    made = commands.add_parser(
         name,
         help=told,
         description=told[0].upper() + told[1:] + ".",

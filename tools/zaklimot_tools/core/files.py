@@ -63,7 +63,8 @@ def may_be_replaced(path: str) -> bool:
 
 
 def _written_status(path: str) -> Optional[os.stat_result]:
-    """The same of an output. One of Python's own streams may be no file at all."""
+    """What is known of the regular file that an output is; None of anything else. One of Python's
+    own streams may be no file at all."""
     if path != STANDARD:
         return status_of(path)
     try:

@@ -145,8 +145,8 @@ def started(words: Words, asking: float = 0, **given: Any) -> Iterator[subproces
     """A program that runs in a group of its own, with nothing on standard input; the group has
     ended afterwards.
 
-    It may be asked to end so many seconds before it is made to. `given` goes to `Popen`; a program
-    that can't be started is a Trouble.
+    `asking` is how many seconds it gets to end by itself, once it is asked to, before it is killed.
+    `given` goes to `Popen`; a program that can't be started is a Trouble.
     """
     process: Optional[subprocess.Popen[bytes]] = None
     if _are_ending.is_set():
@@ -210,8 +210,8 @@ def end(process: subprocess.Popen[bytes], asking: float = 0) -> None:
     """Ends a command with all that it has started, unless its end was asked for: its number may be
     another's then.
 
-    It may be asked to end so many seconds before it is made to: it ends what it has started in
-    groups of their own.
+    `asking` is how many seconds it gets to end by itself before it is killed: time to end what it
+    has started in groups of their own.
     """
     for number in (signal.SIGTERM, signal.SIGKILL) if asking and IS_POSIX else (None,):
         if process.returncode is not None:

@@ -8,8 +8,8 @@ AGREED, DIFFERED, TROUBLE = 0, 1, 2
 
 
 class Trouble(Exception):
-    """A file that can't be read as what it should be, or a word of the command line that can't be
-    meant."""
+    """What ends the work: a file that isn't what it should be, or a word of the command line that
+    means nothing."""
 
     status = TROUBLE
 

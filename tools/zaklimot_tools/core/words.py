@@ -17,7 +17,7 @@ MOST_SHOWN = 40
 
 
 def shown_front(word: str) -> str:
-    """A word as messages show it: of a long one the front."""
+    """A word as messages show it: a long one is cut."""
     return word if len(word) <= MOST_SHOWN else word[:MOST_SHOWN] + ".."
 
 

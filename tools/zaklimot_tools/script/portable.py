@@ -44,11 +44,7 @@ NO_COMPILER = (
     f" on macOS Xcode's command line tools (xcode-select --install), or name one by CC; {PAGE}"
 )
 COMPILES = (
-    "{} compiles the program vga from portable/ now, in about 20 seconds, and once: this program is"
-    " tested, not proved\n"
-)
-COMPILES_LIBRARY = (
-    "{} compiles the library from portable/ now, in about 20 seconds, and once: this library is"
+    "{compiler} compiles {told} from portable/ now, in about 20 seconds, and once: this {kind} is"
     " tested, not proved\n"
 )
 WAITS = "another run compiles the program vga from portable/ just now: this one waits for it\n"
@@ -60,15 +56,14 @@ _in_use: list[int] = []
 
 
 class Product(NamedTuple):
-    """What is compiled of the sources: the name of its file, what messages call it and say while it
-    is made, and the compiler's words beside those that all have.
+    """What is compiled of the sources: the name of its file, what messages call it, and the
+    compiler's words beside those that all have.
 
     A program is tried: it is run for its help. A library is loaded by those who want it.
     """
 
     name: str
     told: str
-    compiles: str
     flags: tuple[str, ...] = ()
     is_program: bool = True
 
@@ -77,10 +72,8 @@ class Product(NamedTuple):
         return SOURCES[:-1] if self.is_program else SOURCES[1:-1]
 
 
-PROGRAM = Product(NAME, "the program vga", COMPILES)
-LIBRARY = Product(
-    LIBRARY_NAME, "the library", COMPILES_LIBRARY, ("-shared", "-fPIC"), is_program=False
-)
+PROGRAM = Product(NAME, "the program vga")
+LIBRARY = Product(LIBRARY_NAME, "the library", ("-shared", "-fPIC"), is_program=False)
 
 
 def has_sources() -> bool:
@@ -186,7 +179,8 @@ def _say(line: str) -> None:
 def _compile(compiler: list[str], path: Path, product: Product) -> None:
     """Compiles the program or the library, tries a program, and only then puts it in its place.
     Others of its name there are removed."""
-    _say(product.compiles.format(shlex.join(compiler)))
+    kind = "program" if product.is_program else "library"
+    _say(COMPILES.format(compiler=shlex.join(compiler), told=product.told, kind=kind))
     kept = path.parent
     # A run that was killed may have left its folder.
     for left in (kept, *kept.parent.glob(f"{MAKING}*")):

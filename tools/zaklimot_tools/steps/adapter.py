@@ -29,6 +29,14 @@ class Taken(NamedTuple):
     refused: str = ""
 
 
+class Timing(NamedTuple):
+    """The dots of a line and of a frame, and those that are left until the frame ends."""
+
+    line_dots: int
+    frame_dots: int
+    to_frame: int
+
+
 class SteppedCard:
     """A card of the library."""
 
@@ -164,11 +172,11 @@ class SteppedCard:
         words = self._dots[: told.width]
         return [word >> 6 & 0x3F000 | word >> 4 & 0xFC0 | word >> 2 & 0x3F for word in words]
 
-    def clock(self) -> Any:
-        """When the frame ends, and how many dots a line and a frame have."""
-        timing = s.zak_timing()
-        self._check(self._calls["clock"](self._at, _byref(timing)))
-        return timing
+    def clock(self) -> Timing:
+        """How many dots a line and a frame have, and how many are left of the frame."""
+        told = s.zak_timing()
+        self._check(self._calls["clock"](self._at, _byref(told)))
+        return Timing(int(told.line_dots), int(told.frame_dots), int(told.to_frame))
 
     # The parts of the state.
 

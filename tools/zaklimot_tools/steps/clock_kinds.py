@@ -55,9 +55,9 @@ def _count(chance: Chance, card: SteppedCard, width: int) -> int:
     """For how many dots the clock runs in the step, from where the card is: to the ends of a
     character, a line and a frame, a dot less or more, or anywhere."""
     timing = card.clock()
-    line = int(timing.line_dots)
-    frame = int(timing.frame_dots)
-    left = int(timing.to_frame)
+    line = timing.line_dots
+    frame = timing.frame_dots
+    left = timing.to_frame
     beam = card.read(("beam",), {})["beam"]
     ends = (width - int(beam["dot"]), left % line, left)
     kind = chance.below(12)

@@ -100,7 +100,7 @@ class SeenElement:
 
 
 # Whether an element shows a branch of a rule.
-Branch = Callable[[SeenElement], Any]
+Branch = Callable[[SeenElement], object]
 
 
 class ShownRule(NamedTuple):

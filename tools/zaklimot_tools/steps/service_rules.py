@@ -1,7 +1,7 @@
 """The rules of SERVICES.md and MODES.md that elements of the video BIOS show."""
 
 from functools import partial
-from typing import Any, NamedTuple
+from typing import NamedTuple
 
 from .seen import Branch, SeenElement, ShownRule
 from .service_kinds import MODES, ONE_PAGE, PACKED_MODES, PLANAR_MODES, SHAPES, TEXTS
@@ -108,7 +108,8 @@ def _string(e: SeenElement, part: int) -> bool:
     return _done(e, 0x13) and e.al == part
 
 
-def _pages_of(e: SeenElement) -> Any:
+def _page_of(e: SeenElement) -> int:
+    """The page that a call names in BH."""
     return e.numbers[1] >> 8
 
 
@@ -186,13 +187,13 @@ RULES = (
         INT,
         {
             "of the active page, in text": lambda e: _done(e, 2, modes=TEXTS)
-            and _pages_of(e) == e.bda["page"],
+            and _page_of(e) == e.bda["page"],
             "of another page, in text": lambda e: _done(e, 2, modes=TEXTS)
-            and _pages_of(e) != e.bda["page"],
+            and _page_of(e) != e.bda["page"],
             "in graphics": lambda e: _done(e, 2) and not _text(e),
             "outside the page": lambda e: _done(e, 2)
             and (e.numbers[3] >> 8 > e.bda["last_row"] or e.numbers[3] & 0xFF >= _columns(e)),
-            "modes of one page take any": lambda e: _done(e, 2, modes=ONE_PAGE) and _pages_of(e),
+            "modes of one page take any": lambda e: _done(e, 2, modes=ONE_PAGE) and _page_of(e),
             **_refusals(2, "BadPage"),
         },
     ),

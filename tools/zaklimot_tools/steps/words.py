@@ -2,7 +2,6 @@
 
 import argparse
 from functools import partial
-from typing import Any
 
 from zaklimot_tools.core import cli
 from zaklimot_tools.core.cli import add, later
@@ -29,7 +28,7 @@ def _add_jobs(parser: argparse.ArgumentParser) -> None:
     add(parser, "--jobs N", told, type=number_to(MOST_JOBS), default=1)
 
 
-def _add_make(commands: Any) -> None:
+def _add_make(commands: cli.Commands) -> None:
     told = "makes the files of all kinds, or of some"
     example = "tools/vga-steps make steps --count 1000 --seed 1 --jobs 2"
     made = cli.command(commands, "make", _job("make"), told, example)
@@ -44,14 +43,14 @@ def _add_make(commands: Any) -> None:
     _add_jobs(made)
 
 
-def _add_kinds(commands: Any) -> None:
+def _add_kinds(commands: cli.Commands) -> None:
     told = "lists the kinds, and what each shows"
     example = "tools/vga-steps kinds --parts"
     made = cli.command(commands, "kinds", _job("list_kinds"), told, example)
     add(made, "--parts", "lists the parts of the state that elements of each kind have too")
 
 
-def _add_script(commands: Any) -> None:
+def _add_script(commands: cli.Commands) -> None:
     told = "writes an element as a script that ends in its step"
     example = "tools/vga-steps script examples/steps/write-mode-0-planar.json.gz 3"
     made = cli.command(commands, "script", _job("write_script"), told, example)
@@ -63,7 +62,7 @@ def _add_script(commands: Any) -> None:
     add(made, "--then", told, choices=("dumps", "reads"))
 
 
-def _add_check(commands: Any) -> None:
+def _add_check(commands: cli.Commands) -> None:
     told = "holds an adapter to elements, by lines of JSON"
     adapter = "python3 examples/steps/toy.py"
     file = "examples/steps/sequencer.json.gz"
@@ -80,7 +79,7 @@ def _add_check(commands: Any) -> None:
     add(made, "--json FILE", "writes the counts, and what differs first, as JSON", type=Output)
 
 
-def _add_coverage(commands: Any) -> None:
+def _add_coverage(commands: cli.Commands) -> None:
     told = "counts how often the elements of files show each rule and its branches"
     example = "tools/vga-steps coverage steps/*.json.gz --jobs 2"
     made = cli.command(commands, "coverage", _job("coverage"), told, example)
@@ -91,7 +90,7 @@ def _add_coverage(commands: Any) -> None:
     _add_jobs(made)
 
 
-def _add_confirm(commands: Any) -> None:
+def _add_confirm(commands: cli.Commands) -> None:
     told = "runs the script of each element on the program, and compares its report"
     example = "tools/vga-steps confirm examples/steps/*.json.gz --jobs 2"
     made = cli.command(commands, "confirm", _job("confirm"), told, example)
@@ -102,7 +101,7 @@ def _add_confirm(commands: Any) -> None:
     _add_jobs(made)
 
 
-def _add_scripts(commands: Any) -> None:
+def _add_scripts(commands: cli.Commands) -> None:
     told = "writes scripts of elements for machines, which show their state by ports and addresses"
     example = "tools/vga-steps scripts machine examples/steps/write-mode-*.json.gz"
     made = cli.command(commands, "scripts", _job("write_scripts"), told, example)
@@ -111,7 +110,7 @@ def _add_scripts(commands: Any) -> None:
     add(made, "--before FILE", told, type=Input)
 
 
-def _add_reports(commands: Any) -> None:
+def _add_reports(commands: cli.Commands) -> None:
     told = "compares the reports of such scripts with the elements"
     example = "tools/vga-steps reports answers examples/steps/write-mode-*.json.gz"
     made = cli.command(commands, "reports", _job("judge_reports"), told, example)

@@ -3,7 +3,6 @@ against one another."""
 
 import argparse
 from functools import partial
-from typing import Any
 
 from zaklimot_tools.core import cli
 from zaklimot_tools.core.cli import add, later, rule
@@ -47,12 +46,12 @@ def _add_code_page(parser: argparse.ArgumentParser) -> None:
 
 
 def _command(
-    commands: Any, name: str, job: cli.Job, told: str, example: str, note: str = ""
+    commands: cli.Commands, name: str, job: cli.Job, told: str, example: str, note: str = ""
 ) -> argparse.ArgumentParser:
     return cli.command(commands, name, job, told, f"tools/vga-trace {example}", note)
 
 
-def _add_text(commands: Any) -> None:
+def _add_text(commands: cli.Commands) -> None:
     told = "writes the text that is shown at a moment"
     made = _command(commands, "text", _seeing("show_text"), told, f"text {TYPED} --form ansi")
     _add_moment(made)
@@ -66,7 +65,7 @@ def _add_text(commands: Any) -> None:
     _add_code_page(made)
 
 
-def _add_files(commands: Any) -> None:
+def _add_files(commands: cli.Commands) -> None:
     told = "writes the colours of the DAC at a moment"
     note = "A name that ends in .gpl is a palette of GIMP's, and .pal one of Paint Shop Pro's."
     example = f"palette {TYPED} typed-line.gpl"
@@ -86,7 +85,7 @@ def _add_files(commands: Any) -> None:
     _add_code_page(made)
 
 
-def _add_screen(commands: Any) -> None:
+def _add_screen(commands: cli.Commands) -> None:
     told = "writes the picture at a moment, the pages of memory, and its planes"
     example = f"screen {TYPED} typed-line.png --aspect --scale 2"
     made = _command(commands, "screen", _seeing("save_screen"), told, example)
@@ -102,7 +101,7 @@ def _add_screen(commands: Any) -> None:
     add_shape(made)
 
 
-def _add_find(commands: Any) -> None:
+def _add_find(commands: cli.Commands) -> None:
     told = "tells when and where a text is shown"
     job = later("zaklimot_tools.trace.finding", "find_text")
     note = "The exit status is 1 if no screen shows it. Rows and columns count from 0."
@@ -122,7 +121,7 @@ def _wanted(word: str) -> str:
     return word
 
 
-def _add_compare(commands: Any) -> None:
+def _add_compare(commands: cli.Commands) -> None:
     told = "tells the first register write and the first picture in which two recordings differ"
     job = later("zaklimot_tools.trace.comparing", "compare_recordings")
     note = "How many cycles and polls lie between them makes no difference."
@@ -137,7 +136,7 @@ def _add_compare(commands: Any) -> None:
     add_program(made)
 
 
-def _add_keep(commands: Any) -> None:
+def _add_keep(commands: cli.Commands) -> None:
     told = "keeps a recording in one file"
     job = later("zaklimot_tools.trace.command", "keep_recording")
     note = "`vga-trace record FILE --again` judges it, and tells what is otherwise now."
@@ -146,7 +145,7 @@ def _add_keep(commands: Any) -> None:
     add(made, "OUTPUT", "the ZIP; - is standard output", type=Output)
 
 
-def add_seeing(commands: Any) -> None:
+def add_seeing(commands: cli.Commands) -> None:
     """Adds the commands to those of the tool."""
     _add_text(commands)
     _add_files(commands)

@@ -173,7 +173,7 @@ def _add_pictures(parser: argparse.ArgumentParser) -> None:
     add_program(parser)
 
 
-def _add_conversions(commands: Any) -> None:
+def _add_conversions(commands: cli.Commands) -> None:
     told = "makes a script of a trace"
     made = cli.command(commands, "convert", _job("convert_trace"), told, CONVERTING)
     _add_trace(made)
