@@ -276,8 +276,8 @@ ROWS = (
         {0x0C: 8, 0x09: 0x03, 0x18: 3},
         [[0x800, 0x801], [0, 1], [8, 9]],
     ),
-    # Line 0 is the first of two that show a scan line, and line 1 the second. Either may be the last
-    # above: eight lines of memory's first row come next.
+    # Line 0 is the first of two that show a scan line, and line 1 the second. Either may be the
+    # last one above: eight lines of memory's first row come next.
     Rows(
         "line compare at the first of two lines",
         {0x0C: 8, 0x09: 0x83, 0x12: 9, 0x18: 0},

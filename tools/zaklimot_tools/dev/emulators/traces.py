@@ -204,14 +204,14 @@ SOFTWARE = {
 }
 
 
-class Row(NamedTuple):
+class TableRow(NamedTuple):
     """The row of a recording in the table, and whether it is as known."""
 
     line: str
     is_as_known: bool
 
 
-def row(name: str, replayed: Replay, refused: int, dots: Optional[int]) -> Row:
+def row(name: str, replayed: Replay, refused: int, dots: Optional[int]) -> TableRow:
     """The row of a recording of which so many cycles are known to be refused, and so many dots to
     be unlike qemu's."""
     written = replayed.written
@@ -229,7 +229,7 @@ def row(name: str, replayed: Replay, refused: int, dots: Optional[int]) -> Row:
     figures = (replayed.listing.trace.count, written.steps, written.script_bytes, plain, *counts)
     is_as_known = (counts[1], counts[2], differing) == (0, refused, dots)
     told = f"| {name} | {' | '.join(f'{figure:,}' for figure in figures)} | {picture} |"
-    return Row(told, is_as_known)
+    return TableRow(told, is_as_known)
 
 
 def replay_all(words: argparse.Namespace, progress: Progress) -> int:
