@@ -8,11 +8,14 @@ docs/RASTER.md and docs/REGISTERS.md have the rules. Registers come as sequences
 from typing import NamedTuple, Sequence
 
 # Registers of the CRT controller.
-TOTAL, SHOWN_CHARACTERS, LINES, OVERFLOW, PRESET_SCAN, MOST_SCAN = 0x00, 0x01, 0x06, 0x07, 8, 9
-START_HIGH, START_LOW, RETRACE_START, LAST_LINE, OFFSET = 0x0C, 0x0D, 0x10, 0x12, 0x13
-UNDERLINE, MODE_CONTROL, LINE_COMPARE = 0x14, 0x17, 0x18
-# Bits of maximum scan line, underline location and mode control.
+TOTAL, SHOWN_CHARACTERS, LINES, OVERFLOW = 0x00, 0x01, 0x06, 0x07
+PRESET_SCAN, MOST_SCAN, START_HIGH, START_LOW = 0x08, 0x09, 0x0C, 0x0D
+RETRACE_START, LAST_LINE, OFFSET, UNDERLINE = 0x10, 0x12, 0x13, 0x14
+MODE_CONTROL, LINE_COMPARE = 0x17, 0x18
+# Bits of maximum scan line, underline location and mode control; and the bits of a scan line in the
+# registers that name one.
 DOUBLE_SCAN, DOUBLE_WORD, WRAPS_AT_15, BYTE_MODE = 0x80, 0x40, 0x20, 0x40
+SCAN = 0x1F
 # Registers of the sequencer and of the graphics controller.
 CLOCKING, MAP_SELECT, MISCELLANEOUS = 1, 3, 6
 # Counters, and offsets in a plane, have 16 bits.
@@ -60,14 +63,34 @@ def line_compare(crtc: Sequence[int]) -> int:
     return crtc[LINE_COMPARE] | (crtc[OVERFLOW] & 0x10) << 4 | (crtc[MOST_SCAN] & 0x40) << 3
 
 
+def preset_scan(crtc: Sequence[int]) -> int:
+    """The scan line, counted from 0, with which the first row of a frame begins."""
+    return crtc[PRESET_SCAN] & SCAN
+
+
+def last_scan(crtc: Sequence[int]) -> int:
+    """The last scan line of a row, counted from 0."""
+    return crtc[MOST_SCAN] & SCAN
+
+
+def underline_scan(crtc: Sequence[int]) -> int:
+    """The scan line of a row in which characters are underlined, if the row has so many."""
+    return crtc[UNDERLINE] & SCAN
+
+
+def is_doubled(crtc: Sequence[int]) -> bool:
+    """Whether each scan line of a row is two lines of a frame."""
+    return bool(crtc[MOST_SCAN] & DOUBLE_SCAN)
+
+
 def row_scans(crtc: Sequence[int]) -> int:
     """How many scan lines a row has."""
-    return (crtc[MOST_SCAN] & 0x1F) + 1
+    return last_scan(crtc) + 1
 
 
 def row_lines(crtc: Sequence[int]) -> int:
-    """How many lines of a frame a row has: each scan line is two of them under double scan."""
-    return row_scans(crtc) << (crtc[MOST_SCAN] >> 7)
+    """How many lines of a frame a row has."""
+    return row_scans(crtc) * (2 if is_doubled(crtc) else 1)
 
 
 def start_address(crtc: Sequence[int]) -> int:
@@ -75,9 +98,14 @@ def start_address(crtc: Sequence[int]) -> int:
     return crtc[START_HIGH] << 8 | crtc[START_LOW]
 
 
+def byte_panning(crtc: Sequence[int]) -> int:
+    """By how many counters the picture is shifted, 0 to 3."""
+    return crtc[PRESET_SCAN] >> 5 & 3
+
+
 def first_counter(crtc: Sequence[int]) -> int:
     """The counter of the first character, with byte panning."""
-    return start_address(crtc) + (crtc[PRESET_SCAN] >> 5 & 3) & COUNTER
+    return start_address(crtc) + byte_panning(crtc) & COUNTER
 
 
 def fetch_address(crtc: Sequence[int], counter: int) -> int:

@@ -21,6 +21,7 @@ from zaklimot_tools.explain.raster import (
     first_counter,
     line_characters,
     map_begin,
+    preset_scan,
 )
 
 from .adapter import SteppedCard
@@ -91,7 +92,7 @@ def _text_planes(chance: Chance, state: Parts, beam: Parts) -> dict[int, list[in
         place = found.setdefault(fetch_address(state["crtc"], counter), [0, 0, 0, 0])
         place[0] = 0xC0 + chance.bits(5) if chance.one_in(3) else chance.bits(8)
         place[1] = chance.among((0x01, 0x09, 0x81)) if chance.one_in(4) else chance.byte()
-    scan = beam["scan"] if beam["line"] else state["crtc"][8] & 31
+    scan = beam["scan"] if beam["line"] else preset_scan(state["crtc"])
     for place in list(found.values()):
         offset = _glyph_row(state["seq"], place[0], place[1], scan)
         found.setdefault(offset, [0, 0, 0, 0])[2] = chance.byte()

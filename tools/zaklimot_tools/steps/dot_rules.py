@@ -7,20 +7,23 @@ from zaklimot.format import MOST_ADVANCE
 from zaklimot_tools.explain.banks import RETRACE_END
 from zaklimot_tools.explain.raster import (
     BYTE_MODE,
-    DOUBLE_SCAN,
     DOUBLE_WORD,
     MODE_CONTROL,
-    MOST_SCAN,
     RETRACE_START,
     UNDERLINE,
     WRAPS_AT_15,
+    byte_panning,
     character_dots,
     character_maps,
     fetch_address,
     frame_lines,
+    is_doubled,
     is_graphics,
+    last_scan,
     line_characters,
     line_compare,
+    preset_scan,
+    underline_scan,
 )
 
 from .dot_kinds import BLINK, LINE_GRAPHICS, MONOCHROME, PACKED_256, PAN_RESET, PLANES_16, SELECT
@@ -72,7 +75,7 @@ def _cells(e: SeenElement) -> list[Cell]:
 def _scan(e: SeenElement) -> int:
     """The scan line of the row: that of a frame's first line is the preset one."""
     is_first = not (e.beam["line"] or e.beam["character"] or e.beam["dot"])
-    return int(e.crtc[8] & 31 if is_first else e.beam["scan"])
+    return int(preset_scan(e.crtc) if is_first else e.beam["scan"])
 
 
 def _map(cell: Cell, e: SeenElement) -> int:
@@ -105,7 +108,7 @@ CELLS: dict[str, Callable[[Cell, SeenElement], bool]] = {
     "is_line": lambda cell, e: 0xC0 <= cell.character <= 0xDF,
     "underlined": lambda cell, e: cell.attribute & 0x77 == 1
     and bool(e.attr[0x10] & MONOCHROME)
-    and _scan(e) == e.crtc[0x14] & 31,
+    and _scan(e) == underline_scan(e.crtc),
     "blinks": lambda cell, e: bool(cell.attribute & 0x80),
     "away": _is_blinked_away,
     "cursor": lambda cell, e: _is_cursor(cell, e) and not e.crtc[0x0A] & CURSOR_OFF,
@@ -144,9 +147,9 @@ def _ends(e: SeenElement) -> str:
     """What happens at the end of the element's line, by the first row that applies."""
     if e.beam["line"] == line_compare(e.crtc):
         return "line compare"
-    if e.crtc[MOST_SCAN] & DOUBLE_SCAN and not e.beam["half"]:
+    if is_doubled(e.crtc) and not e.beam["half"]:
         return "double scan"
-    return "the row goes on" if _scan(e) < e.crtc[MOST_SCAN] & 31 else "the next row"
+    return "the row goes on" if _scan(e) < last_scan(e.crtc) else "the next row"
 
 
 def _line_ends(e: SeenElement, how: str) -> bool:
@@ -213,8 +216,10 @@ RULES = (
         LINES,
         {
             "start address": lambda e: _shown(e) and not e.beam["line"],
-            "byte panning": lambda e: _shown(e) and not e.beam["line"] and e.crtc[8] & 0x60,
-            "preset row scan": lambda e: _is(e, TEXT) and not e.beam["line"] and e.crtc[8] & 31,
+            "byte panning": lambda e: _shown(e) and not e.beam["line"] and byte_panning(e.crtc),
+            "preset row scan": lambda e: _is(e, TEXT)
+            and not e.beam["line"]
+            and preset_scan(e.crtc),
         },
     ),
     ShownRule(

@@ -10,17 +10,17 @@ from typing import Iterator, NamedTuple, Sequence
 from zaklimot_tools.core.trouble import Trouble
 from zaklimot_tools.explain.raster import (
     COUNTER,
-    DOUBLE_SCAN,
-    MOST_SCAN,
     OFFSET,
-    PRESET_SCAN,
     SHOWN_CHARACTERS,
-    UNDERLINE,
     fetch_address,
     first_counter,
+    is_doubled,
     is_graphics,
     last_line,
+    last_scan,
     line_compare,
+    preset_scan,
+    underline_scan,
 )
 from zaklimot_tools.images.png import WIDENED
 
@@ -64,17 +64,19 @@ def lines_shown(state: State) -> int:
 def _bases(crtc: tuple[int, ...], lines: int) -> Sequence[int]:
     """The counters of the first characters of the rows that are shown: see docs/RASTER.md."""
     compare = line_compare(crtc)
+    are_doubled = is_doubled(crtc)
+    last = last_scan(crtc)
     base = first_counter(crtc)
-    scan = crtc[PRESET_SCAN] & 0x1F
+    scan = preset_scan(crtc)
     half = 0
     bases = [base]
     for line in range(lines - 1):
         if line == compare:
             base = scan = half = 0
             bases.append(base)
-        elif crtc[MOST_SCAN] & DOUBLE_SCAN and not half:
+        elif are_doubled and not half:
             half = 1
-        elif scan < crtc[MOST_SCAN] & 0x1F:
+        elif scan < last:
             half = 0
             scan += 1
         else:
@@ -160,7 +162,7 @@ def look_of(state: State, attribute: int) -> Look:
     can_blink = bool(control & BLINKS)
     front = widened(state, entry_of(state, attribute & 0x0F))
     back = widened(state, entry_of(state, attribute >> 4 & (0x07 if can_blink else 0x0F)))
-    is_shown = state.crtc.registers[UNDERLINE] & 0x1F <= state.crtc.registers[MOST_SCAN] & 0x1F
+    is_shown = underline_scan(state.crtc.registers) <= last_scan(state.crtc.registers)
     is_underlined = bool(control & IS_MONOCHROME and attribute & 0x77 == 1 and is_shown)
     return Look(front, back, can_blink and attribute >= 0x80, is_underlined)
 

@@ -26,12 +26,17 @@ from zaklimot_tools.core.progress import Progress
 from zaklimot_tools.core.streams import reading, writing
 from zaklimot_tools.core.trouble import Trouble
 from zaklimot_tools.explain.raster import (
+    byte_panning,
     character_dots,
     character_maps,
+    is_doubled,
     is_graphics,
     last_line,
+    last_scan,
     line_compare,
+    preset_scan,
     row_lines,
+    underline_scan,
 )
 from zaklimot_tools.images.holding import held
 from zaklimot_tools.images.png import save_png
@@ -201,7 +206,7 @@ def _is_split(screen: Screen) -> bool:
 
 def _has_underline(screen: Screen) -> bool:
     crtc = screen.state.crtc.registers
-    return screen.is_text and crtc[0x14] & 0x1F <= crtc[9] & 0x1F
+    return screen.is_text and underline_scan(crtc) <= last_scan(crtc)
 
 
 def _has_two_fonts(screen: Screen) -> bool:
@@ -238,7 +243,7 @@ def whole_rows(state: State, picture: Picture) -> Picture:
     # Under double scan qemu counts other lines to a row.
     if (
         is_graphics(state.gfx.registers)
-        or state.crtc.registers[9] & 0x80
+        or is_doubled(state.crtc.registers)
         or height in (0, picture.height)
     ):
         return picture
@@ -270,10 +275,10 @@ ALLOWED: Mapping[str, Callable[[Screen], bool]] = {
     "DAC mask": lambda screen: screen.state.dac.mask != 0xFF,
     "ninth dot": _is_ninth,
     "colour plane enable": _has_two_fonts,
-    "preset row scan": lambda screen: bool(screen.state.crtc.registers[8] & 0x1F),
+    "preset row scan": lambda screen: preset_scan(screen.state.crtc.registers) > 0,
     "panning": (
         lambda screen: screen.state.attr.registers[0x13] not in (0, 8)
-        or screen.state.crtc.registers[8] & 0x60 > 0
+        or byte_panning(screen.state.crtc.registers) > 0
     ),
     "line compare": _is_split,
     "underline": _has_underline,
