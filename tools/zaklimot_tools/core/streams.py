@@ -215,18 +215,22 @@ class JsonArray:
         self._write("\n]")
 
 
-class JsonList(JsonArray):
-    """A JSON object that is written as it comes: its first members, then a list with a line for
-    each entry, and members behind it."""
+class JsonList:
+    """A JSON object that is written as it comes: its first members, then a list of `entries`, and
+    members behind it."""
 
     def __init__(self, stream: BinaryIO, name: str, front: Mapping[str, object]) -> None:
+        self._stream = stream
         members = (f"{json.dumps(key)}: {json.dumps(value)}, " for key, value in front.items())
-        stream.write(f"{{{''.join(members)}{json.dumps(name)}: ".encode("ascii"))
-        super().__init__(stream)
+        self._write(f"{{{''.join(members)}{json.dumps(name)}: ")
+        self.entries = JsonArray(stream)
 
-    def end_with(self, behind: Mapping[str, object]) -> None:
+    def _write(self, text: str) -> None:
+        self._stream.write(text.encode("ascii"))
+
+    def end(self, behind: Mapping[str, object]) -> None:
         """Ends the list and the object, with these members behind the list."""
-        self.end()
+        self.entries.end()
         for key, value in behind.items():
             self._write(f", {json.dumps(key)}: {json.dumps(value)}")
         self._write("}")

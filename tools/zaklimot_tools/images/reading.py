@@ -41,7 +41,7 @@ class Image(NamedTuple):
     most: int
 
     def every(self, across: int, down: int) -> Image:
-        """The image of one dot in so many of one row in so many."""
+        """A smaller image: the first of each so many dots, in the first of each so many rows."""
         rows = tuple(
             _spread([row[part :: 3 * across] for part in range(3)]) for row in self.rows[::down]
         )

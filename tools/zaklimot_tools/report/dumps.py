@@ -52,8 +52,8 @@ class DumpedBiosData(NamedTuple):
 
 def registers_in(lines: Sequence[str]) -> DumpedRegisters:
     """The registers in the lines of `show regs`."""
-    parted = (line.replace(":", "").partition(" ") for line in lines)
-    words = {name: rest.split() for name, _, rest in parted}
+    parted = (line.partition(" ") for line in lines)
+    words = {name: [word.rstrip(":") for word in rest.split()] for name, _, rest in parted}
     if tuple(words) != GROUPS:
         raise ValueError
     following = words["attr"].pop(1)

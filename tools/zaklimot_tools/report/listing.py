@@ -318,7 +318,7 @@ class Tally:
         expected = row.expected
         self.steps += 1
         if self._json is not None:
-            self._json.add(_told(row))
+            self._json.entries.add(_told(row))
         if expected is None and step.answer == OK:
             # Of most steps there is nothing more to count.
             return False
@@ -340,7 +340,7 @@ class Tally:
         """Ends the JSON, with the trouble of a run that isn't whole."""
         if self._json is not None:
             counts = {name: getattr(self, name) for name in COUNTS}
-            self._json.end_with({**counts, "trouble": None if trouble is None else str(trouble)})
+            self._json.end({**counts, "trouble": None if trouble is None else str(trouble)})
 
     def differing(self) -> Iterator[str]:
         """The answers that differ, a line each."""

@@ -364,10 +364,10 @@ def _write_json(stream: BinaryIO, command: str, groups: Rules, results: list[Res
     for group, rule, some in (
         (group, *one) for group, rules in groups.items() for one in rules.items()
     ):
-        rules.begin_entry()
+        rules.entries.begin_entry()
         cases = JsonList(stream, "cases", {"rule": rule, "folder": group, "answer": _worst(some)})
         for result in some:
-            cases.add(result.told())
-        cases.end_with({})
-    rules.end_with({})
+            cases.entries.add(result.told())
+        cases.end({})
+    rules.end({})
     stream.write(b"\n")

@@ -238,8 +238,8 @@ def _recorded(words: argparse.Namespace, folder: Path, progress: Progress) -> No
     """Records into a folder, which is gone again where nothing was; the note of the recording."""
     # A screen is taken at the end at least.
     deeds = words.deeds if words.deeds and not words.deeds[-1].keys else [*words.deeds, Deed()]
-    kind: type[Union[_OnQemu, _InPage]] = _OnQemu if words.in_page is None else _InPage
-    recorder = kind(words, deeds)
+    recorder: Union[_OnQemu, _InPage]
+    recorder = _OnQemu(words, deeds) if words.in_page is None else _InPage(words, deeds)
     recorder.check()
 
     def say(text: str) -> None:
