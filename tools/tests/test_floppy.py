@@ -152,9 +152,7 @@ class Interpreting(unittest.TestCase):
         for name, value in (
             ("MARK_SECTOR", images.MARK_AT // 512),
             ("ANSWER_SECTOR", images.ANSWERS_AT // 512),
-            ("WAIT_FOR_KEY", 0),
-            ("LEAVE_EMULATOR", 1),
-            ("STAND_STILL", 2),
+            *((ending.name, ending.value) for ending in images.Ending),
             ("INTERPRETER_SIZE", 3072),
             ("HEADER_SIZE", 16),
             ("PARTITIONS", images.PARTITIONS_AT),

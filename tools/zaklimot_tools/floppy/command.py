@@ -31,7 +31,7 @@ from .image import (
     table_of,
 )
 from .rows import Pages, few, files_of, read_file
-from .running import MACHINES, run_on
+from .running import MACHINES, SeenRuns, UnseenRuns
 from .table import Table
 
 # A longer file is no image and no record.
@@ -54,7 +54,7 @@ def scripts_of(path: str) -> dict[str, Script]:
 
 
 def _write_report(words: argparse.Namespace, run: Run, name: str) -> None:
-    names = [script for script, _ in run.table.scripts()]
+    names = [one.name for one in run.table.scripts()]
     if words.report == STANDARD and len(names) != 1:
         raise Trouble(
             f"it has the answers of {len(names)} scripts: name a folder for their reports", name
@@ -65,15 +65,15 @@ def _write_report(words: argparse.Namespace, run: Run, name: str) -> None:
             stream.writelines(report_lines(run, name, words.all_registers))
         return
     folder = empty_folder(words.report)
-    for script, lines in reports(run, name, words.all_registers):
-        path = folder / f"{script}.report"
+    for report in reports(run, name, words.all_registers):
+        path = folder / f"{report.name}.report"
         if ".." in path.parts or folder not in path.parents:
             raise Trouble(
-                f"a script has the name of a file outside of a folder: '{script[:40]}'", name
+                f"a script has the name of a file outside of a folder: '{report.name[:40]}'", name
             )
         path.parent.mkdir(parents=True, exist_ok=True)
         with writing(str(path)) as stream:
-            stream.writelines(lines)
+            stream.writelines(report.lines)
 
 
 def make_image(words: argparse.Namespace, _: Progress) -> None:
@@ -125,10 +125,11 @@ def run_script(words: argparse.Namespace, _: Progress) -> None:
     name = name_of(words.script)
     if [*scripts] == [""]:
         check_file(words.report)
-    run, shown = run_on(
-        MACHINES[words.on], scripts, name, words.bios, words.seconds, words.picture is not None
-    )
-    if shown is not None:
+    machine = MACHINES[words.on]
+    if words.picture is None:
+        run = UnseenRuns(machine, words.bios, words.seconds).run(scripts, name)
+    else:
+        run, picture = SeenRuns(machine, words.bios, words.seconds).run(scripts, name)
         # In the six bits of a component that the DAC has.
-        save_png(words.picture, shown.picture(2 if shown.most == 255 else 0))
+        save_png(words.picture, picture.picture(2 if picture.most == 255 else 0))
     _write_report(words, run, words.on)

@@ -11,6 +11,7 @@ number how many bytes of answers there are, and as its bytes their sum.
 import io
 import re
 import struct
+from enum import IntEnum
 from itertools import chain
 from pathlib import Path
 from typing import BinaryIO, Iterator, Mapping, NamedTuple, Optional
@@ -31,7 +32,6 @@ OEM_AT = 3
 # What is written into the boot sector: how many sectors are loaded, and how the run ends.
 LOADED_AT = 62
 LOADED = struct.Struct("<HB")
-WAIT_FOR_KEY, LEAVE_EMULATOR, STAND_STILL = range(3)
 # What a disk has and a floppy has not: a signature, which keeps others from writing one, and one
 # partition, from sector 1 to the image's end. It is the one to boot; its kind says that it holds no
 # file system. Then three that are empty.
@@ -82,6 +82,14 @@ ANSWERED_BY_PALETTE = {0x1007: (BX,), 0x1008: (BX,), 0x1015: (CX, DX), 0x1019: (
 PALETTE = 0x10
 
 
+class Ending(IntEnum):
+    """What a machine does once it has run all scripts, by the numbers that boot.asm has."""
+
+    WAIT_FOR_KEY = 0
+    LEAVE_EMULATOR = 1
+    STAND_STILL = 2
+
+
 class Run(NamedTuple):
     """What a machine has left: the table that it ran, and the bytes of its answers, whole or as far
     as they came."""
@@ -92,7 +100,10 @@ class Run(NamedTuple):
 
 
 def image_for(
-    scripts: Mapping[str, Script], name: str, ending: int = WAIT_FOR_KEY, is_disk: bool = False
+    scripts: Mapping[str, Script],
+    name: str,
+    ending: Ending = Ending.WAIT_FOR_KEY,
+    is_disk: bool = False,
 ) -> bytes:
     """The image that runs scripts one after the other; a Trouble where a machine has no room for
     them."""
@@ -162,6 +173,15 @@ def has_ended(path: Path) -> bool:
         return False
 
 
+class RecordLine(NamedTuple):
+    """A line of a record: its place in the file, its letter, its number and its bytes."""
+
+    place: int
+    letter: bytes
+    number: int
+    listed: bytes
+
+
 def read_record(data: bytes, name: str) -> Run:
     """The last run of a record, as far as it came; a Trouble where there is none, or a line is
     damaged."""
@@ -170,7 +190,7 @@ def read_record(data: bytes, name: str) -> Run:
         raise Trouble("it holds no record of vga-floppy", name)
     first = data.count(b"\n", 0, begin) + 1
     parts = {TABLE: bytearray(), ANSWERS: bytearray()}
-    end: Optional[tuple[int, bytes]] = None
+    end: Optional[RecordLine] = None
     for line in _lines(data[begin:], first, name):
         part = parts.get(line.letter)
         if part is not None:
@@ -179,24 +199,16 @@ def read_record(data: bytes, name: str) -> Run:
                 raise Trouble(told, name, line.place)
             part += line.listed
         elif line.letter == END:
-            end = line.number, line.listed
+            end = line
             break
     answers = bytes(parts[ANSWERS])
     table = Table(bytes(parts[TABLE]), name)
     if end is None:
         return Run(table, answers, False)
-    if end != (len(answers), (sum(answers) & 0xFFFF).to_bytes(2, "little")):
+    total = (sum(answers) & 0xFFFF).to_bytes(2, "little")
+    if (end.number, end.listed) != (len(answers), total):
         raise Trouble("the end of the record tells of other answers", name)
     return Run(table, answers)
-
-
-class RecordLine(NamedTuple):
-    """A line of a record: its place in the file, its letter, its number and its bytes."""
-
-    place: int
-    letter: bytes
-    number: int
-    listed: bytes
 
 
 def _lines(data: bytes, first: int, name: str) -> Iterator[RecordLine]:
@@ -217,19 +229,24 @@ def _lines(data: bytes, first: int, name: str) -> Iterator[RecordLine]:
         yield RecordLine(number, found[1], int.from_bytes(numbered, "big"), listed)
 
 
-def reports(
-    run: Run, name: str, has_all_registers: bool = False
-) -> Iterator[tuple[str, Iterator[bytes]]]:
-    """The scripts of a run by their names, each with the lines of its report, which are read before
-    the next.
+class ScriptReport(NamedTuple):
+    """The lines of a script's report, and the script's name."""
+
+    name: str
+    lines: Iterator[bytes]
+
+
+def reports(run: Run, name: str, has_all_registers: bool = False) -> Iterator[ScriptReport]:
+    """The reports of a run, script by script; the lines of each are read before the next.
 
     Of a run that isn't whole they are the steps whose answers have come. A BIOS may leave anything
     in a register in which a service doesn't answer: such registers are told as they were handed in,
     unless all are wanted.
     """
     answers = io.BytesIO(run.answers)
-    for script_name, script in run.table.scripts():
-        yield script_name, _report_lines(script, run, answers, name, has_all_registers)
+    for one in run.table.scripts():
+        lines = _report_lines(one.script, run, answers, name, has_all_registers)
+        yield ScriptReport(one.name, lines)
         if answers.closed:
             return
     if run.is_whole and answers.tell() != len(run.answers):
@@ -241,7 +258,7 @@ def reports(
 
 def report_lines(run: Run, name: str, has_all_registers: bool = False) -> Iterator[bytes]:
     """The lines of the reports of a run, script by script."""
-    return chain.from_iterable(lines for _, lines in reports(run, name, has_all_registers))
+    return chain.from_iterable(one.lines for one in reports(run, name, has_all_registers))
 
 
 def _report_lines(

@@ -12,7 +12,7 @@ import struct
 from binascii import crc_hqx
 from dataclasses import dataclass, field
 from pathlib import Path
-from typing import Any, Iterable, Iterator, Optional, Sequence
+from typing import Iterable, Iterator, NamedTuple, Optional, Sequence
 
 from zaklimot_tools.core.processes import captured, check_program
 from zaklimot_tools.core.streams import counted, read_at_most
@@ -23,10 +23,26 @@ from .table import Table
 
 
 CONSONANTS, VOWELS = "bdfghjklmnprstvz", "aiou"
+
+
+class WordLetter(NamedTuple):
+    """A letter of a word: one of so many, whose number there stands in the word's number, shifted
+    by so many bits."""
+
+    shift: int
+    letters: str
+
+
 # A letter of a consonant has four bits, one of a vowel two.
-SHIFTS = ((12, CONSONANTS), (10, VOWELS), (6, CONSONANTS), (4, VOWELS), (0, CONSONANTS))
-WORD = "".join(f"[{letters}]" for _, letters in SHIFTS)
-WORD_LENGTH = len(SHIFTS)
+LETTERS = (
+    WordLetter(12, CONSONANTS),
+    WordLetter(10, VOWELS),
+    WordLetter(6, CONSONANTS),
+    WordLetter(4, VOWELS),
+    WordLetter(0, CONSONANTS),
+)
+WORD = "".join(f"[{one.letters}]" for one in LETTERS)
+WORD_LENGTH = len(LETTERS)
 # Words that a reader of text took for one are several.
 WORDS = re.compile(f"(?:{WORD})+")
 # A row has a number, a word of bytes, and its check.
@@ -34,7 +50,7 @@ LEAST_WORDS = 3
 ROW_BYTES, PAGE_ROWS = 22, 21
 PAGE_BYTES = PAGE_ROWS * ROW_BYTES
 # Rows of answers have smaller numbers; these have the checks of pages from a number on, and this
-# one the length and the sum of all answers, and the check of the table.
+# one tells of all answers.
 ROW_OF_CHECKS, ROW_OF_ALL = 0x8000, 0xFFFF
 ALL = struct.Struct("<HHI")
 # A photograph has so many bytes at most, and is read within so many seconds.
@@ -58,12 +74,12 @@ MOST_TOLD = 8
 
 def word_of(number: int) -> str:
     """The word of a number of two bytes."""
-    return "".join(letters[number >> shift & len(letters) - 1] for shift, letters in SHIFTS)
+    return "".join(one.letters[number >> one.shift & len(one.letters) - 1] for one in LETTERS)
 
 
 def number_of(word: str) -> int:
     """The number of a word, which is one."""
-    return sum(letters.index(letter) << shift for (shift, letters), letter in zip(SHIFTS, word))
+    return sum(one.letters.index(letter) << one.shift for one, letter in zip(LETTERS, word))
 
 
 def row_of(number: int, data: bytes) -> str:
@@ -73,13 +89,22 @@ def row_of(number: int, data: bytes) -> str:
     return " ".join(word_of(word) for (word,) in struct.iter_unpack(">H", row))
 
 
+class AllAnswers(NamedTuple):
+    """What a row tells of all answers: how many bytes they have, the sum of these, and the check of
+    the table that they belong to."""
+
+    length: int
+    total: int
+    check: int
+
+
 @dataclass
 class Pages:
     """What is known of a run's answers by rows. `damaged` has the places of rows that are none."""
 
     rows: dict[int, bytes] = field(default_factory=dict)
     checks: dict[int, int] = field(default_factory=dict)
-    all: Optional[tuple[int, int, int]] = None
+    all: Optional[AllAnswers] = None
     damaged: list[str] = field(default_factory=list)
     name: str = ""
 
@@ -100,9 +125,9 @@ class Pages:
             raise Trouble(f"{place}: the row is none that a machine shows")
         is_known = True
         if number == ROW_OF_ALL:
-            length, total, check = ALL.unpack(data)
-            is_known = self.all in (None, (length, total, check))
-            self.all = length, total, check
+            told = AllAnswers(*ALL.unpack(data))
+            is_known = self.all in (None, told)
+            self.all = told
         elif number > ROW_OF_CHECKS:
             pages = enumerate((check for (check,) in struct.iter_unpack(">H", data)), number)
             is_known = all(self.checks.setdefault(page, check) == check for page, check in pages)
@@ -128,7 +153,7 @@ class Pages:
 
     def answers(self) -> bytes:
         """The answers up to the first row that is missing."""
-        length = self.all[0] if self.all else len(self.rows) * ROW_BYTES
+        length = self.all.length if self.all else len(self.rows) * ROW_BYTES
         data = bytearray()
         while len(data) < length and len(data) // ROW_BYTES in self.rows:
             data += self.rows[len(data) // ROW_BYTES][: length - len(data)]
@@ -140,7 +165,7 @@ class Pages:
         """What is missing, as a person finds it: pages, and rows of pages, each counted from 1."""
         if self.all is None:
             return ["the first row of the page of checks"]
-        last = -(-self.all[0] // ROW_BYTES)
+        last = -(-self.all.length // ROW_BYTES)
         lacking = [row for row in range(last) if row not in self.rows]
         pages: dict[int, list[int]] = {row // PAGE_ROWS: [] for row in lacking}
         for row in lacking:
@@ -154,10 +179,11 @@ class Pages:
     def check(self, table: Table, name: str) -> None:
         """Ends the work where the answers are those of another table, or have other checks."""
         answers = self.answers()
-        length, total, check = self.all or (len(answers), sum(answers) & 0xFFFF, table.check)
-        if check != table.check:
+        own = AllAnswers(len(answers), sum(answers) & 0xFFFF, table.check)
+        told = self.all or own
+        if told.check != own.check:
             raise Trouble("the pages have the answers of another script", name)
-        if len(answers) == length and sum(answers) & 0xFFFF != total:
+        if told.length == own.length and told.total != own.total:
             raise Trouble("the pages have other answers than their sum tells", name)
         for page in range(len(answers) // PAGE_BYTES):
             found = crc_hqx(answers[page * PAGE_BYTES : (page + 1) * PAGE_BYTES], 0)
@@ -233,8 +259,12 @@ def _pictures(data: bytes, path: str) -> Iterator[bytes]:
 def _seen(picture: bytes, path: str) -> str:
     check_program(TESSERACT)
     settings = (word for setting in SETTINGS.items() for word in ("-c", "=".join(setting)))
-    given: dict[str, Any] = {"given": picture, "environment": {"OMP_THREAD_LIMIT": "1"}}
-    done = captured([*READER, *settings], seconds=SECONDS, **given)
+    done = captured(
+        [*READER, *settings],
+        given=picture,
+        environment={"OMP_THREAD_LIMIT": "1"},
+        seconds=SECONDS,
+    )
     if done.status:
         told = " ".join(done.said().split())[-MOST_SAID:]
         raise Trouble(f"tesseract can't read it: {told or 'it said nothing'}", path)

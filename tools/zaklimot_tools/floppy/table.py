@@ -8,7 +8,7 @@ answers, so that an image, or what came over the serial port, stands alone.
 import struct
 import zlib
 from itertools import chain, islice, takewhile
-from typing import Iterable, Iterator, Mapping, Optional, Sequence
+from typing import Iterator, Mapping, NamedTuple, Optional, Sequence
 
 from zaklimot import format
 from zaklimot.format import MOST_STEPS, REGISTERS, Block, Script, Step
@@ -133,9 +133,9 @@ def _table_length(registers: tuple[int, ...]) -> Optional[int]:
     return 0
 
 
-def _indexed(port: int, values: Iterable[tuple[int, int]]) -> bytes:
-    """Writes to registers behind an index, each by one word at the port of the index."""
-    return b"".join(_packed(OUTW, port, value << 8 | index) for index, value in values)
+def _indexed(port: int, values: Mapping[int, int]) -> bytes:
+    """Writes of values to registers by their indexes, each by one word at the port of the index."""
+    return b"".join(_packed(OUTW, port, value << 8 | index) for index, value in values.items())
 
 
 def _written(port: int, *values: int) -> bytes:
@@ -148,11 +148,11 @@ def _reach_planes() -> Iterator[bytes]:
     more."""
     yield _packed(INT, 0x0003, 0, 0, 0, 0, 0, 0)
     yield _written(0x3C2, 0x03)
-    yield _indexed(0x3D4, [(0x11, 0)])
-    yield _indexed(0x3C4, [(0, 3), (4, 6), (2, 0x0F)])
-    yield _indexed(0x3CE, [*((index, 0) for index in range(8)), (8, 0xFF)])
+    yield _indexed(0x3D4, {0x11: 0})
+    yield _indexed(0x3C4, {0: 3, 4: 6, 2: 0x0F})
+    yield _indexed(0x3CE, {**dict.fromkeys(range(8), 0), 8: 0xFF})
     # Emulators have another memory of text: planes are reached in graphics alone.
-    yield _indexed(0x3CE, [(6, 5)])
+    yield _indexed(0x3CE, {6: 5})
     yield _packed(LOOK_AWAY, 0x3DA, 0)
     yield _written(0x3C0, 0x10, 1)
 
@@ -174,9 +174,9 @@ def _clear_registers() -> Iterator[bytes]:
     yield from (_written(0x3C0, index, 0) for index in range(0x15))
     yield _written(0x3C0, 0)
     yield _packed(LOOK_AWAY, 0x3DA, 0)
-    yield _indexed(0x3D4, ((index, 3 if index == 0x17 else 0) for index in range(0x19)))
-    yield _indexed(0x3C4, ((index, 0) for index in range(1, 5)))
-    yield _indexed(0x3CE, ((index, 0) for index in range(9)))
+    yield _indexed(0x3D4, {**dict.fromkeys(range(0x19), 0), 0x17: 3})
+    yield _indexed(0x3C4, dict.fromkeys(range(1, 5), 0))
+    yield _indexed(0x3CE, dict.fromkeys(range(9), 0))
     yield from (_written(port, 0) for port in (0x3C4, 0x3C8, 0x3CE, 0x3D4))
 
 
@@ -213,6 +213,22 @@ def table_for(scripts: Mapping[str, Script]) -> bytes:
     return HEADER.pack(NAME, VERSION, len(parts[0]), len(steps), zlib.crc32(steps)) + steps
 
 
+class TableStep(NamedTuple):
+    """A step of a table: its opcode and its fields, and the bytes behind these: a block, or the
+    name of a script."""
+
+    opcode: int
+    fields: tuple[int, ...]
+    behind: bytes
+
+
+class NamedScript(NamedTuple):
+    """A script of a table, by its name; that of a single script is empty."""
+
+    name: str
+    script: Script
+
+
 class Table:
     """A table that was read, from an image or from a record."""
 
@@ -229,59 +245,57 @@ class Table:
         if len(self._steps) < length or zlib.crc32(self._steps) != self.check:
             raise Trouble("its table of steps is damaged", name)
 
-    def scripts(self) -> list[tuple[str, Script]]:
-        """Its scripts in their order, with their names.
+    def scripts(self) -> list[NamedScript]:
+        """Its scripts in their order.
 
         Their steps are called by what they answer; that of a call has its registers, and how long
         its table is.
         """
-        scripts: list[tuple[str, list[Item]]] = []
+        names: list[str] = []
+        items: list[list[Item]] = []
         steps = self._decoded()
         left = MOST_STEPS
-        for opcode, fields, behind in steps:
-            if opcode == SCRIPT:
-                scripts.append((behind.decode("utf-8", "surrogateescape"), []))
+        for step in steps:
+            if step.opcode == SCRIPT:
+                names.append(step.behind.decode("utf-8", "surrogateescape"))
+                items.append([])
                 left = MOST_STEPS
-            elif opcode != FINISH:
-                items = self._items(opcode, fields, steps)
+            elif step.opcode != FINISH:
+                found = self._items(step, steps)
                 left -= sum(
-                    item.count * len(item.steps) if isinstance(item, Block) else 1 for item in items
+                    item.count * len(item.steps) if isinstance(item, Block) else 1 for item in found
                 )
-                if left < 0 or not scripts:
+                if left < 0 or not names:
                     raise self._forged()
-                scripts[-1][1].extend(items)
-        return [(name, Script(tuple(items))) for name, items in scripts]
+                items[-1].extend(found)
+        return [NamedScript(name, Script(tuple(some))) for name, some in zip(names, items)]
 
-    def _items(
-        self,
-        opcode: int,
-        fields: tuple[int, ...],
-        steps: Iterator[tuple[int, tuple[int, ...], bytes]],
-    ) -> Sequence[Item]:
+    def _items(self, step: TableStep, steps: Iterator[TableStep]) -> Sequence[Item]:
         """The items of a step of the table, or of those up to the end of a block that it begins."""
-        if opcode != REPEAT:
-            return self._answers(opcode, fields)
-        inner = takewhile(lambda step: step[0] != END, steps)
-        answers = chain.from_iterable(self._answers(*step[:2]) for step in inner)
+        if step.opcode != REPEAT:
+            return self._answers(step)
+        inner = takewhile(lambda one: one.opcode != END, steps)
+        answers = chain.from_iterable(map(self._answers, inner))
         # No block of a script has more steps.
         within = tuple(islice(answers, MOST_STEPS + 1))
-        if len(within) > MOST_STEPS or not fields[0]:
+        count = step.fields[0]
+        if len(within) > MOST_STEPS or not count:
             raise self._forged()
-        return [Block(fields[0], within)]
+        return [Block(count, within)]
 
-    def _answers(self, opcode: int, fields: tuple[int, ...]) -> list[Step]:
-        if opcode not in ANSWERED:
+    def _answers(self, step: TableStep) -> list[Step]:
+        if step.opcode not in ANSWERED:
             raise self._forged()
-        return _answers(opcode, fields)
+        return _answers(step)
 
     def _forged(self) -> Trouble:
         return Trouble("its table of steps is none that vga-floppy makes", self._name)
 
     def answer_length(self) -> int:
         """How many bytes of answers the scripts have."""
-        return sum(length_of(item) for _, script in self.scripts() for item in script.items)
+        return sum(length_of(item) for one in self.scripts() for item in one.script.items)
 
-    def _decoded(self) -> Iterator[tuple[int, tuple[int, ...], bytes]]:
+    def _decoded(self) -> Iterator[TableStep]:
         at = self._first
         while at < len(self._steps):
             opcode = self._steps[at]
@@ -291,15 +305,18 @@ class Table:
             fields = form.unpack_from(self._steps, at + 1)
             at += 1 + form.size
             length = fields[-1] if opcode in BEHIND else 0
-            yield opcode, fields, self._steps[at : at + length]
+            yield TableStep(opcode, fields, self._steps[at : at + length])
             at += length
 
 
-def _answers(opcode: int, fields: tuple[int, ...]) -> list[Step]:
+def _answers(step: TableStep) -> list[Step]:
+    """The steps of a report that a step of the table is, by what they answer."""
+    opcode = step.opcode
     if opcode == INT:
-        return [Step(CALL, (*fields[:4], fields[5]))]
+        *registers, _, table_length, _ = step.fields
+        return [Step(CALL, (*registers, table_length))]
     if opcode in (PASS_OVER, LOOK_AWAY):
-        return [Step(SKIPPED)] * (fields[0] if opcode == PASS_OVER else 1)
+        return [Step(SKIPPED)] * (step.fields[0] if opcode == PASS_OVER else 1)
     return [Step(BYTE if opcode in (IN, GET) else WORD if opcode in (INW, GETW) else DONE)]
 
 

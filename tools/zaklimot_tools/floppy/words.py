@@ -2,7 +2,6 @@
 
 import argparse
 from functools import partial
-from typing import Any
 
 from zaklimot_tools.core import cli
 from zaklimot_tools.core.cli import add, later, rule
@@ -28,7 +27,7 @@ def _add_report(parser: argparse.ArgumentParser) -> None:
     add(parser, "--all-registers", told)
 
 
-def _add_make(commands: Any) -> None:
+def _add_make(commands: cli.Commands) -> None:
     told = "makes the image of a floppy or a stick that runs a script, or many"
     example = "tools/vga-floppy make examples/asked-of-machines.vga floppy.img"
     made = cli.command(commands, "make", _job("make_image"), told, example)
@@ -37,7 +36,7 @@ def _add_make(commands: Any) -> None:
     add(made, "IMAGE", "the image, of 1,474,560 bytes; - is standard output", type=Output)
 
 
-def _add_read(commands: Any) -> None:
+def _add_read(commands: cli.Commands) -> None:
     told = "gives the report of what a run has left"
     example = "tools/vga-floppy read floppy.img"
     made = cli.command(commands, "read", _job("read_run"), told, example)
@@ -55,7 +54,7 @@ def _add_read(commands: Any) -> None:
     _add_report(made)
 
 
-def _add_run(commands: Any) -> None:
+def _add_run(commands: cli.Commands) -> None:
     told = "runs a script on an emulator, and gives the report"
     example = "tools/vga-floppy run --on qemu examples/asked-of-machines.vga"
     made = cli.command(commands, "run", _job("run_script"), told, example)
