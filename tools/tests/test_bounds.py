@@ -23,6 +23,7 @@ from zaklimot_tools.explain.mistakes import mistake_in
 from zaklimot_tools.floppy import image
 from zaklimot_tools.floppy.table import HEADER, NAME, VERSION, Table, table_for
 from zaklimot_tools.images import holding, others, reading
+from zaklimot_tools.images.png import ImageSize
 from zaklimot_tools.images.reading import image_of, size_of
 from zaklimot_tools.images.words import Within
 from zaklimot_tools.picture.asked import Fit
@@ -210,7 +211,7 @@ class Images(Folder):
         unpacked = mock.patch.object(reading, "_unfiltered", side_effect=AssertionError)
         with unpacked:
             self.assertEqual(size_of(Path(large).read_bytes(), "it"), (3, 1))
-            told = refused(check_size, (3, 1), MODES["13"], Fit.EXACT, "it")
+            told = refused(check_size, ImageSize(3, 1), MODES["13"], Fit.EXACT, "it")
             self.assertRegex(told, "the image has 3x1 dots, and mode 13 has 320x200")
         status, output, said = run_tool(
             "vga-report", "compare-picture", report, "1", large, prepare=unpacked.start

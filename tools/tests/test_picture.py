@@ -482,7 +482,7 @@ class Colours(unittest.TestCase):
         dots = [[(x // 2, x // 2, x // 2) for x in range(128)] for _ in range(64)]
         for most in (4, 12):
             floyd, nearest, ordered = (
-                sorted(indexed(dots, most, way, "i")[0].colours)
+                sorted(indexed(dots, most, way, "i").colours)
                 for way in (Fewer.FLOYD, Fewer.NEAREST, Fewer.ORDERED)
             )
             self.assertEqual((floyd, ordered), (spread_colours(nearest), nearest))
@@ -538,7 +538,7 @@ class Colours(unittest.TestCase):
         dots = [[(x // 2, x // 2, x // 2) for x in range(128)] for _ in range(16)]
         errors = {}
         for fewer in (Fewer.NEAREST, Fewer.FLOYD, Fewer.ORDERED):
-            image, _ = indexed(dots, 4, fewer, "i")
+            image = indexed(dots, 4, fewer, "i")
             reds = [bytes(image.colours[number][0] for number in row) for row in image.rows]
             # How far the mean red of each column of blocks of eight by eight dots is from the
             # image's.

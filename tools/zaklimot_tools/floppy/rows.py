@@ -249,9 +249,9 @@ def _pictures(data: bytes, path: str) -> Iterator[bytes]:
     module = others.pillow()
     if module is not None:
         image = others.opened(module, data, path)
-        width, height = others.size_of(image)
-        if width * height > MOST_DOTS:
-            raise Trouble(f"it has {width}x{height} dots, and {MOST_DOTS:,} are the most", path)
+        size = others.size_of(image)
+        if size.width * size.height > MOST_DOTS:
+            raise Trouble(f"it has {size} dots, and {MOST_DOTS:,} are the most", path)
         yield from others.dark_on_white(image, WIDTHS, path)
     yield data
 

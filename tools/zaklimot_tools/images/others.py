@@ -6,6 +6,8 @@ from typing import Any, Iterator, Optional, Sequence
 
 from zaklimot_tools.core.trouble import Trouble
 
+from .png import ImageSize
+
 # What is told of an image where Pillow is missing.
 WITHOUT = "the package pillow reads other images: pip install pillow, or Debian's python3-pil"
 # What Pillow reads by other programs.
@@ -38,12 +40,11 @@ def opened(module: Any, data: bytes, name: str) -> Any:
         raise _unread(error, name) from error
 
 
-def size_of(image: Any) -> tuple[int, int]:
-    """The width and the height of an image that stands upright."""
+def size_of(image: Any) -> ImageSize:
+    """The size of an image that stands upright."""
     width, height = image.size
-    return (
-        (height, width) if image.getexif().get(ORIENTATION, 1) in ON_ITS_SIDE else (width, height)
-    )
+    is_on_side = image.getexif().get(ORIENTATION, 1) in ON_ITS_SIDE
+    return ImageSize(height, width) if is_on_side else ImageSize(width, height)
 
 
 def rows_of(image: Any, name: str, ground: Optional[bytes] = None) -> tuple[bytes, ...]:

@@ -26,6 +26,16 @@ MONITOR = 4 / 3
 MOST_DOTS = 100_000_000
 
 
+class ImageSize(NamedTuple):
+    """The width and the height of an image, in dots."""
+
+    width: int
+    height: int
+
+    def __str__(self) -> str:
+        return f"{self.width}x{self.height}"
+
+
 class Shape(NamedTuple):
     """How a picture is enlarged: each dot so often, and then to the shape of a monitor of 4 by
     3."""
@@ -33,9 +43,9 @@ class Shape(NamedTuple):
     scale: int = 1
     is_monitor: bool = False
 
-    def size(self, width: int, height: int) -> tuple[int, int]:
-        """The width and the height that a picture of this size gets. No dot is lost."""
-        given = f"{width}x{height}"
+    def size(self, width: int, height: int) -> ImageSize:
+        """The size that a picture of this width and height gets. No dot is lost."""
+        given = ImageSize(width, height)
         width *= self.scale
         height *= self.scale
         if self.is_monitor and 3 * width > 4 * height:
@@ -47,7 +57,7 @@ class Shape(NamedTuple):
                 f"a picture of {given} dots would get {width}x{height}, and {MOST_DOTS:,} dots are"
                 " the most"
             )
-        return width, height
+        return ImageSize(width, height)
 
 
 def chunk(kind: bytes, data: bytes) -> bytes:
@@ -61,7 +71,7 @@ def _head(width: int, height: int) -> bytes:
     return SIGNATURE + head + chunk(b"sBIT", bytes([6, 6, 6]))
 
 
-def _packed(rows: Iterable[bytes], size: tuple[int, int], new: tuple[int, int]) -> Iterator[bytes]:
+def _packed(rows: Iterable[bytes], size: ImageSize, new: ImageSize) -> Iterator[bytes]:
     packer = zlib.compressobj(COMPRESSION)
     for row in rows if new == size else stretched(rows, size, new):
         packed = packer.compress(b"\0" + row)
@@ -70,12 +80,11 @@ def _packed(rows: Iterable[bytes], size: tuple[int, int], new: tuple[int, int]) 
     yield packer.flush()
 
 
-def stretched(
-    rows: Iterable[bytes], size: tuple[int, int], new: tuple[int, int]
-) -> Iterator[bytes]:
+def stretched(rows: Iterable[bytes], size: ImageSize, new: ImageSize) -> Iterator[bytes]:
     """Rows of one size as rows of a larger one, each dot and each row repeated as often as it
     takes."""
-    (width, height), (new_width, new_height) = size, new
+    width, height = size
+    new_width, new_height = new
     columns = [x * width // new_width for x in range(new_width)]
     last = b""
     wide = b""
@@ -121,7 +130,7 @@ def write_png(
         rows = (_marked_row(picture, other, width, y) for y in range(height))
     size = shape.size(width, height)
     stream.write(_head(*size))
-    for part in _packed(rows, (width, height), size):
+    for part in _packed(rows, ImageSize(width, height), size):
         stream.write(chunk(b"IDAT", part))
     stream.write(chunk(b"IEND", b""))
 
@@ -146,17 +155,17 @@ class Animation:
     """Frames of one size: that of the first, or a size that is given, to which each picture is
     stretched."""
 
-    def __init__(self, shape: Shape, stretched: Optional[tuple[int, int]] = None) -> None:
+    def __init__(self, shape: Shape, stretched: Optional[ImageSize] = None) -> None:
         self._shape = shape
         self._stretched = stretched
-        self._size = (0, 0)
+        self._size = ImageSize(0, 0)
         self._first = ""
         self.seconds = 0.0
         self.frames: list[PackedFrame] = []
 
     def add(self, picture: Picture, seconds: float, name: str) -> None:
         """Adds a frame, which is to have the size of the first."""
-        given = picture.width, picture.height
+        given = ImageSize(picture.width, picture.height)
         size = self._shape.size(*(self._stretched or given))
         if self.frames and size != self._size:
             raise Trouble(

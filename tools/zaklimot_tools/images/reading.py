@@ -14,7 +14,7 @@ from zaklimot_tools.core.streams import read_at_most
 from zaklimot_tools.core.trouble import Trouble
 
 from . import others
-from .png import MOST_DOTS, SIGNATURE, stretched
+from .png import MOST_DOTS, SIGNATURE, ImageSize, stretched
 
 
 PPM = re.compile(
@@ -40,6 +40,11 @@ class Image(NamedTuple):
     rows: tuple[bytes, ...]
     most: int
 
+    @property
+    def size(self) -> ImageSize:
+        """Its width and height."""
+        return ImageSize(self.width, self.height)
+
     def every(self, across: int, down: int) -> Image:
         """A smaller image: the first of each so many dots, in the first of each so many rows."""
         rows = tuple(
@@ -49,9 +54,8 @@ class Image(NamedTuple):
 
     def repeated(self, across: int, down: int) -> Image:
         """The image with each dot so often across and down."""
-        size = (self.width, self.height)
-        new = (self.width * across, self.height * down)
-        return Image(*new, tuple(stretched(self.rows, size, new)), self.most)
+        new = ImageSize(self.width * across, self.height * down)
+        return Image(*new, tuple(stretched(self.rows, self.size, new)), self.most)
 
     def picture(self, shift: int) -> Picture:
         """The picture of six bits a component, of which so many low bits are taken off."""
@@ -80,17 +84,15 @@ def image_of(
     return _other(data, name, most, ground)
 
 
-def size_of(data: bytes, name: str) -> tuple[int, int]:
-    """The width and the height that the file of an image tells, which says nothing yet of its
-    dots."""
+def size_of(data: bytes, name: str) -> ImageSize:
+    """The size that the file of an image tells, which says nothing yet of its dots."""
     if data.startswith(SIGNATURE):
         if len(data) < HEAD_AT + 8:
             raise Trouble(DAMAGED, name)
-        width, height = struct.unpack_from(">II", data, HEAD_AT)
-        return int(width), int(height)
+        return ImageSize(*struct.unpack_from(">II", data, HEAD_AT))
     if data.startswith(PPM_BEGINS):
         head = _ppm_head(data, name)
-        return head.width, head.height
+        return ImageSize(head.width, head.height)
     return others.size_of(others.opened(_pillow(name), data, name))
 
 

@@ -6,9 +6,10 @@ from collections import Counter
 from dataclasses import dataclass
 from functools import lru_cache, partial
 from itertools import groupby, permutations, product
-from typing import Callable, Iterator, Mapping, Sequence
+from typing import Callable, Iterator, Mapping, NamedTuple, Sequence
 
 from zaklimot import format
+from zaklimot.format import FONT_BYTES
 from zaklimot_tools.core.trouble import Trouble
 
 from .colours import Colour, Indexed, distance
@@ -18,8 +19,7 @@ from .steps import Item, runs, service
 
 WINDOW = 0xB8000
 GLYPHS = 256
-# The font file, and where it has the glyphs of so many lines.
-FONTS_LENGTH = 9728
+# Where a font file has the glyphs of so many lines.
 FONTS_AT = {8: 0, 14: 256 * 8, 16: 256 * (8 + 14)}
 # Characters whose ninth dot is the eighth once more.
 LINE_CHARACTERS = range(0xC0, 0xE0)
@@ -52,8 +52,8 @@ class Chosen:
 
 def font_of(data: bytes, height: int, name: str) -> bytes:
     """The glyphs of 8, 14 or 16 lines of a font file."""
-    if len(data) != FONTS_LENGTH:
-        raise Trouble(f"a font file has {FONTS_LENGTH:,} bytes, and this has {len(data):,}", name)
+    if len(data) != FONT_BYTES:
+        raise Trouble(f"a font file has {FONT_BYTES:,} bytes, and this has {len(data):,}", name)
     return data[FONTS_AT[height] : FONTS_AT[height] + GLYPHS * height]
 
 
@@ -144,8 +144,17 @@ def cells_of(image: Indexed, mode: Mode, font: bytes, tell: Callable[[int], None
     return made
 
 
-def _corners(mode: Mode) -> Iterator[tuple[int, int]]:
-    return product(range(0, mode.height, mode.cell_height), range(0, mode.width, mode.cell_width))
+class Corner(NamedTuple):
+    """Where a cell begins in an image: its first row of dots, and its first column."""
+
+    top: int
+    left: int
+
+
+def _corners(mode: Mode) -> Iterator[Corner]:
+    """The corners of all cells, row by row."""
+    tops = range(0, mode.height, mode.cell_height)
+    return map(Corner._make, product(tops, range(0, mode.width, mode.cell_width)))
 
 
 def dots_of_cells(image: Indexed, mode: Mode) -> Iterator[bytes]:
@@ -233,8 +242,8 @@ def own_glyphs(image: Indexed, mode: Mode, cells: Sequence[Chosen]) -> dict[int,
     )
     for cell, dots in zip(cells, dots_of_cells(image, mode)):
         if cell.error:
-            error, glyph = wanted_of(dots)
-            gains[glyph] += max(0, cell.error - error)
+            best = wanted_of(dots)
+            gains[best.glyph] += max(0, cell.error - best.error)
     free = [character for character in range(GLYPHS) if character not in kept]
     wanted = sorted(
         (glyph for glyph in gains if gains[glyph]), key=lambda glyph: (-gains[glyph], glyph)
@@ -242,8 +251,15 @@ def own_glyphs(image: Indexed, mode: Mode, cells: Sequence[Chosen]) -> dict[int,
     return dict(zip(free, wanted))
 
 
-def _wanted(dots: bytes, colours: Sequence[Colour], width: int) -> tuple[int, bytes]:
-    """The glyph that shows a cell best in two of its colours, and how far it is from it then."""
+class WantedGlyph(NamedTuple):
+    """A glyph that would show a cell of an image, and how far it would be from that."""
+
+    error: int
+    glyph: bytes
+
+
+def _wanted(dots: bytes, colours: Sequence[Colour], width: int) -> WantedGlyph:
+    """The glyph that shows a cell best, in two of its colours."""
     counts = Counter(dots)
     # The ninth dot has the colour behind the character.
     last = Counter(dots[8::width]) if width > 8 else Counter[int]()
@@ -262,9 +278,8 @@ def _wanted(dots: bytes, colours: Sequence[Colour], width: int) -> tuple[int, by
         distance(colour, colours[front]) < distance(colour, colours[back]) for colour in colours
     ]
     lines = (dots[at : at + 8] for at in range(0, len(dots), width))
-    return best, bytes(
-        sum(is_ink[number] << 7 - x for x, number in enumerate(line)) for line in lines
-    )
+    glyph = bytes(sum(is_ink[number] << 7 - x for x, number in enumerate(line)) for line in lines)
+    return WantedGlyph(best, glyph)
 
 
 def with_glyphs(font: bytes, glyphs: Mapping[int, bytes]) -> bytes:

@@ -6,7 +6,7 @@ from collections import Counter
 from dataclasses import dataclass
 from functools import lru_cache
 from itertools import chain
-from typing import TYPE_CHECKING, Callable, Iterable, Iterator, Optional, Sequence
+from typing import TYPE_CHECKING, Callable, Iterable, Iterator, NamedTuple, Optional, Sequence
 
 from zaklimot_tools.core.trouble import Trouble
 from zaklimot_tools.images.reading import Image
@@ -21,8 +21,6 @@ Colour = tuple[int, int, int]
 # How the eye weighs a difference of red, of green and of blue. Blue counts for no less: a dither
 # would else mix the blue of a sky with greens.
 WEIGHTS = (3, 4, 2)
-# Colours, each with how many dots have it.
-Box = list[tuple[Colour, int]]
 # Where an image has more colours than this, those that differ in their low bits alone are first
 # taken as one.
 MANY = 4096
@@ -46,6 +44,57 @@ FINE = 16
 FEW = 1 << 13
 # An ordered dither of four by four dots: the order in which they become brighter.
 ORDERED = ((0, 8, 2, 10), (12, 4, 14, 6), (3, 11, 1, 9), (15, 7, 13, 5))
+
+
+class ColourCount(NamedTuple):
+    """A colour, and how many dots have it."""
+
+    colour: Colour
+    dots: int
+
+
+Box = list[ColourCount]
+
+
+class BoxSpan(NamedTuple):
+    """How wide a box of colours is, weighted, and in which component: the widest one."""
+
+    width: int
+    part: int
+
+
+class BoxCut(NamedTuple):
+    """A box that may be cut in two: how much speaks for that, by which component it is cut, and the
+    box's number."""
+
+    weight: int
+    part: int
+    number: int
+
+
+class BoxLoss(NamedTuple):
+    """What more is lost if a colour goes and another one stands for its box too, by the numbers of
+    both."""
+
+    lost: int
+    number: int
+    other: int
+
+
+class BoxGain(NamedTuple):
+    """What is won if a box, by its number, is cut in two, and the colours in the middle of both."""
+
+    won: int
+    number: int
+    middles: list[Colour]
+
+
+class Neighbour(NamedTuple):
+    """A colour beside another one: how far it is from that, and its number."""
+
+    far: int
+    number: int
+    colour: Colour
 
 
 def arrays_for(dots: int) -> Optional[Arrays]:
@@ -80,7 +129,7 @@ class Nearest:
         self._colours = colours
         self._known: dict[Colour, int] = {}
         self._begins: dict[Colour, int] = {}
-        self._around: dict[int, list[tuple[int, int, Colour]]] = {}
+        self._around: dict[int, list[Neighbour]] = {}
 
     def __call__(self, colour: Colour) -> int:
         """The number for a colour, whose components may be any integers."""
@@ -102,29 +151,35 @@ class Nearest:
             best = min(best, (distance(colour, other), number))
         return best[1]
 
-    def _neighbours(self, number: int) -> list[tuple[int, int, Colour]]:
+    def _neighbours(self, number: int) -> list[Neighbour]:
+        """The other colours, the nearest to one first."""
         if number not in self._around:
             own = self._colours[number]
             self._around[number] = sorted(
-                (distance(own, colour), other, colour)
+                Neighbour(distance(own, colour), other, colour)
                 for other, colour in enumerate(self._colours)
                 if other != number
             )
         return self._around[number]
 
 
+def _box_of(counts: Counter[Colour]) -> Box:
+    """The box of all colours that were counted."""
+    return list(map(ColourCount, counts, counts.values()))
+
+
 def middle_colours(counts: Counter[Colour], most: int) -> list[Colour]:
     """So many colours in the middle of those of an image: by cutting boxes of colours at their
     median, and k-means."""
-    counts = _fewer(counts)
-    return sorted(set(_refined(counts, [_mean(box) for box in _cut_boxes(counts, most)])))
+    whole = _box_of(_fewer(counts))
+    return sorted(set(_refined(whole, [_mean(box) for box in _cut_boxes(whole, most)])))
 
 
 def outer_colours(counts: Counter[Colour], most: int) -> list[Colour]:
     """So many colours of an image that lie far apart: each is the one that is farthest from those
     before it."""
     counts = _fewer(counts)
-    middle = _mean(list(counts.items()))
+    middle = _mean(_box_of(counts))
     chosen = [max(counts, key=lambda colour: (distance(colour, middle), colour))]
     far = {colour: distance(colour, chosen[0]) for colour in counts}
     while len(chosen) < min(most, len(counts)):
@@ -164,24 +219,23 @@ def _fewer(counts: Counter[Colour]) -> Counter[Colour]:
     alike."""
     shift = 0
     fewer = counts
+    whole = _box_of(counts) if len(counts) > MANY else []
     while len(fewer) > MANY:
         shift += 1
         boxes: dict[Colour, Box] = {}
-        for colour, count in counts.items():
-            red, green, blue = colour
-            boxes.setdefault((red >> shift, green >> shift, blue >> shift), []).append(
-                (colour, count)
-            )
+        for entry in whole:
+            red, green, blue = entry.colour
+            boxes.setdefault((red >> shift, green >> shift, blue >> shift), []).append(entry)
         fewer = Counter()
         for box in boxes.values():
-            fewer[_mean(box)] += sum(count for _, count in box)
+            fewer[_mean(box)] += sum(dots for _, dots in box)
     return fewer
 
 
 def _mean(box: Box) -> Colour:
     """The middle of colours; the one that nearly all of the dots have, if there is one."""
     total = sum(count for _, count in box)
-    colour, most = max(box, key=lambda entry: (entry[1], entry[0]))
+    colour, most = max(box, key=lambda entry: (entry.dots, entry.colour))
     if 8 * most > PLAIN * total:
         return colour
     red, green, blue = (
@@ -191,77 +245,78 @@ def _mean(box: Box) -> Colour:
     return red, green, blue
 
 
-def _widest(box: Box) -> tuple[int, int]:
-    """How wide a box of colours is, weighted, and in which component."""
-    spans = [
-        (
-            WEIGHTS[part]
-            * (max(colour[part] for colour, _ in box) - min(colour[part] for colour, _ in box))
-            ** 2,
-            part,
-        )
-        for part in range(3)
-    ]
-    return max(spans)
+def _span(box: Box, part: int) -> BoxSpan:
+    values = [colour[part] for colour, _ in box]
+    return BoxSpan(WEIGHTS[part] * (max(values) - min(values)) ** 2, part)
+
+
+def _widest(box: Box) -> BoxSpan:
+    """The component in which a box of colours is widest; of several the last."""
+    return max(_span(box, part) for part in range(3))
 
 
 def _cut(box: Box, part: int) -> Iterator[Box]:
     """A box in two, so that about half of the dots stand in each; none is empty."""
-    ordered = sorted(box, key=lambda entry: (entry[0][part], entry))
+    ordered = sorted(box, key=lambda entry: (entry.colour[part], entry))
     half = sum(count for _, count in ordered) / 2
     passed = 0
     at = 0
-    while at < len(ordered) - 1 and (at == 0 or passed + ordered[at][1] / 2 <= half):
-        passed += ordered[at][1]
+    while at < len(ordered) - 1 and (at == 0 or passed + ordered[at].dots / 2 <= half):
+        passed += ordered[at].dots
         at += 1
     yield ordered[:at]
     yield ordered[at:]
 
 
-def _cut_boxes(counts: Counter[Colour], most: int) -> list[Box]:
-    """So many boxes of colours, or one for each colour."""
-    boxes = [list(counts.items())]
+def _cut_boxes(whole: Box, most: int) -> list[Box]:
+    """So many boxes of the colours of one, or one for each colour."""
+    boxes = [whole]
     while len(boxes) < most:
-        spans = [(_widest(box), -number) for number, box in enumerate(boxes) if len(box) > 1]
-        if not spans:
+        cuts = [_cut_of(box, number) for number, box in enumerate(boxes) if len(box) > 1]
+        if not cuts:
             break
-        # The box that is widest, and of the most dots, is cut first.
-        (_, part), number = max(
-            ((span * sum(count for _, count in boxes[-at]), part), at) for (span, part), at in spans
-        )
-        box = boxes.pop(-number)
-        boxes.extend(_cut(box, part))
+        best = max(cuts, key=lambda cut: (cut.weight, cut.part, -cut.number))
+        boxes.extend(_cut(boxes.pop(best.number), best.part))
     return boxes
 
 
-def _boxes_of(counts: Counter[Colour], chosen: Sequence[Colour]) -> list[Box]:
-    arrays = arrays_for(len(counts) * len(chosen))
+def _cut_of(box: Box, number: int) -> BoxCut:
+    """How a box would be cut: the widest, and of the most dots, is cut first."""
+    span = _widest(box)
+    return BoxCut(span.width * sum(count for _, count in box), span.part, number)
+
+
+def _boxes_of(whole: Box, chosen: Sequence[Colour]) -> list[Box]:
+    """A box for each chosen colour, of those colours to which it is the nearest."""
+    colours = [entry.colour for entry in whole]
+    arrays = arrays_for(len(colours) * len(chosen))
     numbers: Iterable[int] = (
-        map(Nearest(chosen), counts) if arrays is None else arrays.nearest(list(counts), chosen)
+        map(Nearest(chosen), colours) if arrays is None else arrays.nearest(colours, chosen)
     )
     boxes: list[Box] = [[] for _ in chosen]
-    for number, entry in zip(numbers, counts.items()):
+    for number, entry in zip(numbers, whole):
         boxes[number].append(entry)
     return boxes
 
 
 def _lost(box: Box, middle: Colour) -> int:
+    """How far the dots of a box are from the colour that stands for them."""
     return sum(count * distance(colour, middle) for colour, count in box)
 
 
-def _refined(counts: Counter[Colour], chosen: list[Colour]) -> list[Colour]:
+def _refined(whole: Box, chosen: list[Colour]) -> list[Colour]:
     """Colours in the middle of those that are nearest to them; those that save little are put where
     most is lost."""
     best = chosen
     least = -1
     for _ in range(EXCHANGES):
         for _ in range(MOVES):
-            boxes = _boxes_of(counts, chosen)
+            boxes = _boxes_of(whole, chosen)
             moved = [_mean(box) if box else colour for colour, box in zip(chosen, boxes)]
             if moved == chosen:
                 break
             chosen = moved
-        boxes = _boxes_of(counts, chosen)
+        boxes = _boxes_of(whole, chosen)
         lost = list(map(_lost, boxes, chosen))
         if 0 <= least <= sum(lost):
             break
@@ -274,33 +329,36 @@ def _refined(counts: Counter[Colour], chosen: list[Colour]) -> list[Colour]:
 def _exchanged(chosen: Sequence[Colour], boxes: Sequence[Box], lost: Sequence[int]) -> list[Colour]:
     """Colours of which those that save little stand where most is won: in one half of a box that is
     cut in two."""
+    made = list(chosen)
+    touched = set[int]()
+    gains = sorted(_gains(boxes, lost), reverse=True)
+    for loss, gain in zip(sorted(_losses(chosen, boxes)), gains):
+        if loss.lost >= gain.won:
+            break
+        if not touched & {loss.number, loss.other, gain.number}:
+            touched |= {loss.number, loss.other, gain.number}
+            made[gain.number], made[loss.number] = gain.middles
+    return made
+
+
+def _losses(chosen: Sequence[Colour], boxes: Sequence[Box]) -> Iterator[BoxLoss]:
+    """What two boxes lose more where they become one: each, and that of the nearest colour."""
     dots = [sum(count for _, count in box) for box in boxes]
-    saved = []
     for number, colour in enumerate(chosen):
         far, other = min(
             (distance(colour, near), at) for at, near in enumerate(chosen) if at != number
         )
-        # What two boxes lose more where they become one.
-        saved.append(
-            (dots[number] * dots[other] * far // max(1, dots[number] + dots[other]), number, other)
-        )
-    won = []
+        lost = dots[number] * dots[other] * far // max(1, dots[number] + dots[other])
+        yield BoxLoss(lost, number, other)
+
+
+def _gains(boxes: Sequence[Box], lost: Sequence[int]) -> Iterator[BoxGain]:
+    """What boxes win that are cut in two."""
     for number, box in enumerate(boxes):
         if len(box) > 1:
-            halves = list(_cut(box, _widest(box)[1]))
+            halves = list(_cut(box, _widest(box).part))
             middles = [_mean(half) for half in halves]
-            won.append((lost[number] - sum(map(_lost, halves, middles)), number, middles))
-    made = list(chosen)
-    touched = set[int]()
-    for (little, number, other), (much, cut, middles) in zip(
-        sorted(saved), sorted(won, reverse=True)
-    ):
-        if little >= much:
-            break
-        if not touched & {number, other, cut}:
-            touched |= {number, other, cut}
-            made[cut], made[number] = middles
-    return made
+            yield BoxGain(lost[number] - sum(map(_lost, halves, middles)), number, middles)
 
 
 @dataclass(frozen=True)
@@ -483,9 +541,9 @@ def indexed(
     fewer: Fewer,
     name: str,
     finer: Optional[Sequence[Row]] = None,
-) -> tuple[Indexed, int]:
-    """The image of these dots in so many colours at most, and how many it had; a Trouble where more
-    are refused. The dither of Floyd and Steinberg takes finer dots, where they are given."""
+) -> Indexed:
+    """The image of these dots in so many colours at most; a Trouble where it has more, and they are
+    refused. The dither of Floyd and Steinberg takes finer dots, where they are given."""
     counts = Counter(chain.from_iterable(rows))
     colours = list(counts)
     if len(colours) <= most:
@@ -500,7 +558,7 @@ def indexed(
             dots = finer or [[(FINE * r, FINE * g, FINE * b) for r, g, b in row] for row in rows]
         colours = _chosen(rows, dots, counts, most, fewer)
         made = list(WAYS[fewer](dots, colours))
-    return _by_frequency(colours, made), len(counts)
+    return _by_frequency(colours, made)
 
 
 def _by_frequency(colours: Sequence[Colour], rows: Sequence[bytes]) -> Indexed:

@@ -29,7 +29,8 @@ WAYS = {
 }
 
 
-def _drawn(words: argparse.Namespace, progress: Progress) -> tuple[Drawn, str]:
+def _drawn(words: argparse.Namespace, progress: Progress) -> Drawn:
+    """The script that words ask for, and what is told of it."""
     mode = MODES[words.mode]
     name = name_of(words.image)
     font = b""
@@ -42,30 +43,32 @@ def _drawn(words: argparse.Namespace, progress: Progress) -> tuple[Drawn, str]:
     check_size(size_of(data, name), mode, words.fit, name)
     bars = words.bars or bytes(3)
     image = image_of(data, name, MOST_DOTS, words.ground or bars)
-    image, size = fitted(image, mode, words.fit, bars, name)
+    image, told = fitted(image, mode, words.fit, bars, name)
     rows = six_bits(image)
     count = len(set(chain.from_iterable(rows)))
     # A dither keeps how bright areas are: those of the six high bits are darker.
     if count > len(mode.entries) and words.fewer in (Fewer.FLOYD, Fewer.ORDERED):
         rows = six_bits(image, is_rounded=True)
     finer = fine(image) if words.fewer is Fewer.FLOYD else None
-    made, _ = indexed(rows, len(mode.entries), words.fewer, name, finer)
-    told = f"{size}, {counted(len(made.colours), 'colour')}"
+    made = indexed(rows, len(mode.entries), words.fewer, name, finer)
+    told += f", {counted(len(made.colours), 'colour')}"
     if count > len(mode.entries):
         told += f" for {count:,}, by {WAYS[words.fewer]}"
-    if mode.kind is not Kind.CELLS:
-        return draw_pixels(made, mode, words.short), told
 
     def tell(done: int) -> None:
         if progress.is_due():
             progress.tell(f"{done:,} of {mode.columns * mode.rows:,} cells")
 
-    return draw_text(made, mode, font, words.short, words.own_glyphs, tell), told
+    if mode.kind is Kind.CELLS:
+        drawn = draw_text(made, mode, font, words.short, words.own_glyphs, tell)
+    else:
+        drawn = draw_pixels(made, mode, words.short)
+    return drawn._replace(told=told + drawn.told)
 
 
 def write_drawing(words: argparse.Namespace, progress: Progress) -> None:
     """Makes a script that draws an image."""
-    drawn, told = _drawn(words, progress)
+    drawn = _drawn(words, progress)
     progress.clear()
     # The script takes its place once the picture has taken its own, so that neither is written
     # alone.
@@ -74,5 +77,5 @@ def write_drawing(words: argparse.Namespace, progress: Progress) -> None:
         figures = write_script(stream, drawn.parts, answer, not words.bytes)
         if words.picture is not None:
             save_png(words.picture, drawn.picture)
-    line = f"mode {words.mode}: {told}{drawn.told}; {figures}"
+    line = f"mode {words.mode}: {drawn.told}; {figures}"
     print(line, file=sys.stderr if STANDARD in (words.script, words.picture) else sys.stdout)

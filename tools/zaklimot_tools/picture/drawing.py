@@ -17,7 +17,7 @@ NO_CURSOR = 0x2000
 
 
 class Drawn(NamedTuple):
-    """The parts of a script, the picture that its frame shows, and what else is told of it."""
+    """The parts of a script, the picture that its frame shows, and what is told of it."""
 
     parts: list[Part]
     picture: Picture

@@ -17,7 +17,7 @@ from __future__ import annotations
 from collections import Counter
 from functools import lru_cache
 from itertools import chain, combinations, takewhile
-from typing import Iterator, Mapping, Optional, Sequence
+from typing import Iterator, Mapping, NamedTuple, Optional, Sequence
 
 from zaklimot import format
 from zaklimot_tools.trace.state import FIRST_ADDRESS as WINDOW, PLANES, map_mask
@@ -27,9 +27,8 @@ from .mode import Kind, Mode
 from .steps import Item, Part, service
 
 
+# The lines of a cell.
 Cell = tuple[bytes, ...]
-# A window of cells: its column and row, and how many columns and rows it has.
-Window = tuple[int, int, int, int]
 CELL_WIDTH = 8
 # Bytes that a block must save: what its words would have saved in common with those beside it.
 LEAST_SAVED = 32
@@ -38,10 +37,6 @@ LEAST_SAVED = 32
 MASKS = tuple(sorted(range(1, 16), key=lambda mask: (-bin(mask).count("1"), mask)))
 # The two bytes of a word in each plane.
 Word = tuple[bytes, ...]
-# Writes: the planes that each reaches, which of the word's addresses, from 0 on, and the bytes for
-# these.
-Write = tuple[int, int, bytes]
-Writes = list[Write]
 NUMBERS = 16
 # Pixels of a word.
 WORD = 16
@@ -57,6 +52,56 @@ DIGITS = tuple(
 # Pixels of rows, each the number of a colour.
 Rows = Sequence[bytes]
 Planes = tuple[bytes, ...]
+
+
+class CellWindow(NamedTuple):
+    """A window of cells: its first column and row, and how many columns and rows it has."""
+
+    column: int
+    row: int
+    columns: int
+    rows: int
+
+
+class CellPlace(NamedTuple):
+    """A cell, and its column and row."""
+
+    column: int
+    row: int
+    cell: Cell
+
+
+class PlaneWrite(NamedTuple):
+    """A write to a word: the planes that it reaches, a bit each; the first of the word's addresses
+    that it reaches, 0 or 1; and the bytes for this address and the one after it."""
+
+    mask: int
+    first: int
+    data: bytes
+
+
+class LastWrite(NamedTuple):
+    """A write after which nothing of a word is left to be made, and the bytes that it makes, a bit
+    each."""
+
+    write: PlaneWrite
+    reached: int
+
+
+class WordKind(NamedTuple):
+    """Words of an image that have the same colours: these, a bit each, and how often they are
+    there."""
+
+    colours: int
+    times: int
+
+
+class Band(NamedTuple):
+    """A block of steps that draws a window, and how many bytes it is shorter than the steps row by
+    row."""
+
+    block: Item
+    saved: int
 
 
 def planes_of(rows: Rows) -> Planes:
@@ -98,7 +143,7 @@ def drawing(have: Planes, want: Planes) -> list[Item]:
 
 
 @lru_cache(maxsize=None)
-def least_writes(have: Word, want: Word) -> Writes:
+def least_writes(have: Word, want: Word) -> list[PlaneWrite]:
     """The fewest writes that make one word another, in the order of masks."""
     # They hang on which bytes are alike, and not on what these are.
     values = [list(dict.fromkeys(word[at] for word in (*have, *want))) for at in (0, 1)]
@@ -106,13 +151,13 @@ def least_writes(have: Word, want: Word) -> Writes:
         tuple(bytes(map(list.index, values, word)) for word in words) for words in (have, want)
     )
     return [
-        (mask, first, bytes(values[at][number] for at, number in enumerate(numbers, first)))
+        PlaneWrite(mask, first, bytes(values[at][one] for at, one in enumerate(numbers, first)))
         for mask, first, numbers in _least(*named)
     ]
 
 
 @lru_cache(maxsize=None)
-def _least(have: Word, want: Word) -> Writes:
+def _least(have: Word, want: Word) -> list[PlaneWrite]:
     """The same, of words of which only that counts which bytes are alike."""
     return _Search(have, want).least()
 
@@ -145,14 +190,14 @@ class _Search:
             for left in range(256)
         ]
 
-    def least(self) -> Writes:
+    def least(self) -> list[PlaneWrite]:
         """The writes, in the order of masks."""
         # A write for each plane is always enough.
-        enough = [(1 << plane, 0, word) for plane, word in enumerate(self._want)]
+        enough = [PlaneWrite(1 << plane, 0, word) for plane, word in enumerate(self._want)]
         found = (self._of(255, MASKS[::-1], most) for most in range(self._needed[255], PLANES))
         return next((writes for writes in found if writes is not None), enough)
 
-    def _of(self, left: int, masks: Sequence[int], most: int) -> Optional[Writes]:
+    def _of(self, left: int, masks: Sequence[int], most: int) -> Optional[list[PlaneWrite]]:
         """So many writes at most, of these masks, that make what is left; None where there are
         none."""
         if not self._needed[left]:
@@ -167,21 +212,21 @@ class _Search:
                         return [*before, write]
         return None
 
-    def _last(self, left: int, mask: int) -> Iterator[tuple[Write, int]]:
-        """The writes of a mask that can be the last of those that make what is left, with the bytes
-        that each reaches: the low one, the high one, or both."""
-        low, high = self._low[left & mask], self._high[left >> PLANES & mask]
+    def _last(self, left: int, mask: int) -> Iterator[LastWrite]:
+        """The writes of a mask that can be the last of those that make what is left: of the low
+        address, of the high one, or of both."""
+        low = self._low[left & mask]
+        high = self._high[left >> PLANES & mask]
         if len(low) == 1:
-            yield (mask, 0, bytes(low)), mask
+            yield LastWrite(PlaneWrite(mask, 0, bytes(low)), mask)
         if len(high) == 1:
-            yield (mask, 1, bytes(high)), mask << PLANES
+            yield LastWrite(PlaneWrite(mask, 1, bytes(high)), mask << PLANES)
         if len(low) == len(high) == 1:
-            yield (mask, 0, bytes((*low, *high))), mask * 0x11
+            yield LastWrite(PlaneWrite(mask, 0, bytes((*low, *high))), mask * 0x11)
 
 
-def _cycles(words: Sequence[tuple[int, int]], numbers: Sequence[int]) -> int:
-    """Cycles of words, each the bits of its colours and how often it is there: of different planes
-    but empty ones."""
+def _cycles(words: Sequence[WordKind], numbers: Sequence[int]) -> int:
+    """Cycles of words: one for each of its planes that differ, but for empty ones."""
     a, b, c, d = (
         sum(1 << colour for colour, number in enumerate(numbers) if number & bit)
         for bit in (1, 2, 4, 8)
@@ -203,7 +248,7 @@ def best_numbers(rows: Rows, count: int) -> list[int]:
         bytes(sorted(set(row[at : at + WORD]))) for row in rows for at in range(0, len(row), WORD)
     )
     weighed = sorted(sets.items(), key=lambda entry: (-entry[1], entry[0]))[:MOST_SETS]
-    words = [(sum(1 << colour for colour in colours), times) for colours, times in weighed]
+    words = [WordKind(sum(1 << one for one in colours), times) for colours, times in weighed]
     # Numbers behind those of the colours are free, and may be exchanged for one that is taken.
     numbers = list(FIRST_NUMBERS)
     least = _cycles(words, numbers)
@@ -231,7 +276,7 @@ def drawn(mode: Mode, have: Rows, want: Rows) -> list[Item]:
     return list(put_steps({offset: new for offset, (old, new) in pixels if old != new}))
 
 
-def scroll(mode: Mode, window: Window, lines: int, colour: int = 0) -> Item:
+def scroll(mode: Mode, window: CellWindow, lines: int, colour: int = 0) -> Item:
     """Function 07 on a window, of whose rows so many become blank; 0 lines blanks all of it in a
     colour."""
     column, row, columns, rows = window
@@ -239,9 +284,9 @@ def scroll(mode: Mode, window: Window, lines: int, colour: int = 0) -> Item:
     if mode.kind is Kind.BYTES:
         cycles = 64 * columns * (2 * rows - (lines or rows))
     function = 0x0600 if lines == 0 else 0x0700 | lines
-    return service(
-        cycles, function, colour << 8, row << 8 | column, row + rows - 1 << 8 | column + columns - 1
-    )
+    first = row << 8 | column
+    last = row + rows - 1 << 8 | column + columns - 1
+    return service(cycles, function, colour << 8, first, last)
 
 
 def _steps_of(items: Sequence[Item]) -> Iterator[format.Step]:
@@ -278,7 +323,7 @@ class Areas:
             bands,
         )
 
-    def _finish(self, window: Window) -> None:
+    def _finish(self, window: CellWindow) -> None:
         column, row, columns, rows = window
         left = CELL_WIDTH * column
         right = CELL_WIDTH * (column + columns)
@@ -288,13 +333,12 @@ class Areas:
             for at in range(column, column + columns):
                 cells[at] = self._blank if cells[at] == self._blank else None
 
-    def _places(self) -> Iterator[tuple[int, int, Cell]]:
-        """Columns and rows of the cells that are still to be drawn when it is their turn, and
-        these."""
+    def _places(self) -> Iterator[CellPlace]:
+        """The cells that are still to be drawn when it is their turn."""
         for row, cells in enumerate(self._cells):
             for column, cell in enumerate(cells):
                 if cell is not None and cell != self._blank:
-                    yield column, row, cell
+                    yield CellPlace(column, row, cell)
 
     def _rows_alike(self, column: int, row: int, columns: int) -> int:
         """How many rows from this one on have the same cells as it, none of which is drawn."""
@@ -315,7 +359,7 @@ class Areas:
             columns = sum(
                 1 for _ in takewhile(lambda other: other == cell, self._cells[row][column:])
             )
-            window = (column, row, columns, self._rows_alike(column, row, columns))
+            window = CellWindow(column, row, columns, self._rows_alike(column, row, columns))
             yield scroll(self._mode, window, 0, colour)
             self._finish(window)
 
@@ -326,10 +370,10 @@ class Areas:
             rows = self._rows_alike(column, row, 1)
             if rows < 2:
                 continue
-            window = (column, row, self._columns_alike(column, row, rows), rows)
-            block, saved = self._band(window)
-            if saved >= LEAST_SAVED:
-                yield block
+            window = CellWindow(column, row, self._columns_alike(column, row, rows), rows)
+            band = self._band(window)
+            if band.saved >= LEAST_SAVED:
+                yield band.block
                 self._finish(window)
 
     def _columns_alike(self, column: int, row: int, rows: int) -> int:
@@ -344,9 +388,8 @@ class Areas:
             columns = columns if cells[0] == self._blank else count
         return columns
 
-    def _band(self, window: Window) -> tuple[Item, int]:
-        """A block that draws a window, and how many bytes it is shorter than its rows one by
-        one."""
+    def _band(self, window: CellWindow) -> Band:
+        """A block that draws a window whose rows are alike."""
         column, row, columns, rows = window
         left = CELL_WIDTH * column
         right = CELL_WIDTH * (column + columns)
@@ -361,4 +404,4 @@ class Areas:
         items = [scroll(self._mode, window, 1), *steps, *masks]
         block = format.Block(rows, tuple(_steps_of(items)))
         saved = rows * sum(item.step.size for item in steps) - block.size
-        return Item(block, rows * sum(item.cycles for item in items)), saved
+        return Band(Item(block, rows * sum(item.cycles for item in items)), saved)

@@ -2,7 +2,6 @@
 
 import argparse
 import re
-from typing import Any
 
 from zaklimot_tools.core import cli
 from zaklimot_tools.core.cli import add, later, rule
@@ -27,10 +26,10 @@ def colour(word: str) -> bytes:
 
 def _add_sizes(parser: argparse.ArgumentParser) -> None:
     sizes = parser.add_mutually_exclusive_group()
-    constant: dict[str, Any] = {"action": "store_const", "dest": "fit"}
-    add(sizes, "--scale", "stretches an image of another size", const=Fit.SCALE, **constant)
+    told = "stretches an image of another size"
+    add(sizes, "--scale", told, dest="fit", action="store_const", const=Fit.SCALE)
     told = "the same, but it keeps its shape on the screen, between bars"
-    add(sizes, "--fit", told, const=Fit.FIT, **constant)
+    add(sizes, "--fit", told, dest="fit", action="store_const", const=Fit.FIT)
     told = "the colour of the bars of --fit, eight bits a component (default: black)"
     add(parser, "--bars RRGGBB", told, type=colour)
     told = "the colour behind what is transparent (default: that of --bars)"
@@ -48,8 +47,8 @@ def _add_colours(parser: argparse.ArgumentParser) -> None:
         "does the same, but mixes them: by Floyd and Steinberg, or by a pattern of four by four"
         " dots"
     )
-    ways: dict[str, Any] = {"choices": [Fewer.FLOYD, Fewer.ORDERED], "type": Fewer}
-    add(colours, "--dither floyd|ordered", told, dest="fewer", **ways)
+    dithers = [Fewer.FLOYD, Fewer.ORDERED]
+    add(colours, "--dither floyd|ordered", told, dest="fewer", type=Fewer, choices=dithers)
     parser.set_defaults(fewer=Fewer.REFUSED)
 
 

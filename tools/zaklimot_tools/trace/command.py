@@ -13,7 +13,7 @@ from zaklimot_tools.core.processes import check_program
 from zaklimot_tools.core.progress import Progress
 from zaklimot_tools.core.streams import reading, write_name, writing
 from zaklimot_tools.core.trouble import AGREED, DIFFERED, Trouble
-from zaklimot_tools.images.png import Animation, Shape, save_png
+from zaklimot_tools.images.png import Animation, ImageSize, Shape, save_png
 from zaklimot_tools.report.report import Report
 from zaklimot_tools.script.program import check_program_runs, found_program
 
@@ -109,7 +109,7 @@ def make_pictures(words: argparse.Namespace, _: Progress) -> None:
 
 def _write_stills(
     folder: Optional[str], shape: Shape, pictures: Iterator[tuple[Picture, float]]
-) -> tuple[int, int]:
+) -> ImageSize:
     """Writes each picture into a folder, if there is one; the largest width and height."""
     begin = 0.0
     width = 0
@@ -122,7 +122,7 @@ def _write_stills(
         begin = begin + lasts
         width = max(width, picture.width)
         height = max(height, picture.height)
-    return width, height
+    return ImageSize(width, height)
 
 
 def _moving(animation: Animation, pictures: Iterator[tuple[Picture, float]]) -> Animation:
