@@ -467,6 +467,8 @@ class Files(Folder):
             {"planes": [[1, 2, 3, 4]]},
             {"planes": [[2, 0, 0, 0, 0], [1, 0, 0, 0, 0]]},
             {"colours": [[256, 0, 0, 0]]},
+            {"colours": [[255, 0, 64, 0]]},
+            {"planes": [[256, 0, 0, 0, 256]]},
             {"beam": {"line": 0}},
             {"bda": {**dict.fromkeys(BDA, 0)}},
             {"sums": [0] * 4},

@@ -34,8 +34,8 @@ LISTS = {
 }
 # The parts that are a list of places: an offset with its bytes in the four planes, and an entry of
 # the DAC with its three components. How many numbers each place has, and the most that the first
-# may be.
-PLACES = {"planes": (5, 0xFFFF), "colours": (4, 0xFF)}
+# may be, and each of the others.
+PLACES = {"planes": (5, 0xFFFF, 0xFF), "colours": (4, 0xFF, 0x3F)}
 # The CRC-32 of each whole plane, and of the 768 bytes of the DAC.
 SUMS = "sums"
 SUM_COUNT = 5

@@ -154,13 +154,15 @@ def _are_kept(value: object, masks: bytes) -> bool:
 
 def _are_places(name: str, value: object) -> bool:
     """Whether something is a list of places: their first numbers rise."""
-    width, most = PLACES[name]
+    width, most, most_value = PLACES[name]
     if not isinstance(value, list) or len(value) > MOST_PLACES:
         return False
-    if not all(_are_numbers(place, 0xFFFF, width) for place in value):
+    if not all(_are_numbers(place, most, width) for place in value):
+        return False
+    if not all(max(place[1:]) <= most_value for place in value):
         return False
     firsts = [place[0] for place in value]
-    return firsts == sorted(set(firsts)) and (not firsts or firsts[-1] <= most)
+    return firsts == sorted(set(firsts))
 
 
 def _is_struct(name: str, value: object) -> bool:
