@@ -16,7 +16,7 @@ from pathlib import Path
 from typing import Any, Iterator, Optional
 from unittest import mock
 
-from zaklimot.format import Step
+from zaklimot.format import Step, decode
 from zaklimot_tools.steps.adapter import SteppedCard
 from zaklimot_tools.steps.chance import Chance
 from zaklimot_tools.steps.comparing import differences
@@ -508,7 +508,7 @@ class Files(Folder):
                 list(branches_shown(other))
                 list(text_lines(other))
                 list(readback_lines(other))
-                self.assertTrue(confirming(other).script.items)
+                self.assertTrue(decode(confirming(other).script).items)
         self.assertGreater(good, 200)
 
     def test_differences_are_told_by_field(self) -> None:

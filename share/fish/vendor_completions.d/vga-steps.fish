@@ -21,7 +21,7 @@ function __vga_steps_commands
         script 'writes an element as a script that ends in its step' \
         check 'holds an adapter to elements, by lines of JSON' \
         coverage 'counts how often the elements of files show each rule and its branches' \
-        confirm 'runs the script of each element on the program, and compares its report' \
+        confirm 'runs the script of each element, and compares its report' \
         scripts 'writes scripts of elements for machines, which show their state by ports and addresses' \
         reports 'compares the reports of such scripts with the elements'
 end

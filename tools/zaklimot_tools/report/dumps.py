@@ -2,7 +2,7 @@
 reading of what is no such dump."""
 
 from dataclasses import dataclass
-from typing import NamedTuple, Sequence
+from typing import Iterable, NamedTuple, Sequence
 
 # How the lines of `show regs` begin, in their order.
 GROUPS = ("misc", "seq", "crtc", "gfx", "attr", "dac")
@@ -100,3 +100,8 @@ def latches_in(line: str) -> bytes:
 def bytes_in(line: str) -> bytes:
     """The bytes of a line of `show plane` or `show dac`, behind the words that name them."""
     return bytes.fromhex(line.partition(": ")[2])
+
+
+def all_bytes_in(lines: Iterable[str]) -> bytes:
+    """The bytes of such lines, one after the other."""
+    return bytes.fromhex(" ".join(line.partition(": ")[2] for line in lines))

@@ -79,6 +79,18 @@ def _named_program(name: str) -> str:
     return path
 
 
+def built_program(named: Optional[str] = None) -> Optional[str]:
+    """Where a program is that is built already: as it is named, else proved and built here, a
+    release's, or in the path; None if there is none."""
+    if named is not None:
+        return to_read(_named_program(named))
+    for built in (PROGRAM, RELEASED):
+        if os.access(built, os.X_OK):
+            return to_read(str(built))
+    found = _in_path()
+    return None if found is None else to_read(found)
+
+
 def found_program(named: Optional[str] = None, instead: str = NAME_ONE) -> str:
     """Where the program is: as it is named, else proved and built here, a release's, in the path,
     or the portable one.
@@ -86,15 +98,10 @@ def found_program(named: Optional[str] = None, instead: str = NAME_ONE) -> str:
     The portable one is compiled where that was not done yet. Where there is none, a Trouble says
     what to do instead.
     """
-    if named is not None:
-        return to_read(_named_program(named))
-    for built in (PROGRAM, RELEASED):
-        if os.access(built, os.X_OK):
-            return to_read(str(built))
-    found = _in_path()
+    found = built_program(named)
     if found is None and not has_sources():
         raise Trouble(NO_PROGRAM + instead)
-    return to_read(found) if found is not None else portable_program()
+    return portable_program() if found is None else found
 
 
 def _words(script: str, fonts: str, until: Optional[int], is_bytes: bool) -> list[str]:

@@ -8,7 +8,7 @@ from zaklimot_tools.core.streams import to_read
 from zaklimot_tools.core.trouble import Trouble
 from zaklimot_tools.script.portable import has_sources, portable_library
 
-# The calls that single steps take.
+# The calls that single steps take, and the run of a whole script.
 CALLS = (
     "version",
     "open",
@@ -35,6 +35,7 @@ CALLS = (
     "read_plane",
     "save",
     "restore",
+    "run",
 )
 # What names the library, as for the package for Python.
 NAMED = "ZAKLIMOT_LIBRARY"

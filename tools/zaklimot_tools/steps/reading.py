@@ -140,10 +140,14 @@ def _is_number(value: object, most: int) -> bool:
     return type(value) is int and 0 <= value <= most
 
 
-def _are_numbers(value: object, most: int, count: Optional[int] = None) -> bool:
+def _are_numbers(value: object, most: int, count: Optional[int] = None, least: int = 0) -> bool:
     """Whether something is a list of so many numbers, or of any number of them."""
-    is_list = isinstance(value, list) and count in (None, len(value))
-    return is_list and all(_is_number(one, most) for one in cast(list[Any], value))
+    if not isinstance(value, list) or count not in (None, len(value)):
+        return False
+    # Lists of dots are long: each of these is a loop of Python's own.
+    return {*map(type, value)} <= {int} and (
+        not value or (least <= min(value) and max(value) <= most)
+    )
 
 
 def _are_kept(value: object, masks: bytes) -> bool:
@@ -248,9 +252,8 @@ def _are_dots(answer: object) -> bool:
         return False
     colours = answer["colours"]
     entries = answer["entries"]
-    are_lists = _are_numbers(colours, 0x3FFFF) and isinstance(entries, list)
-    known = are_lists and all(one == -1 or _is_number(one, 0xFF) for one in entries)
-    return known and len(colours) == len(entries)
+    are_known = _are_numbers(colours, 0x3FFFF) and _are_numbers(entries, 0xFF, least=-1)
+    return are_known and len(colours) == len(entries)
 
 
 def _fault_of_refusal(name: object) -> str:

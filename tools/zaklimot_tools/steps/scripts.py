@@ -3,32 +3,33 @@ the dumps or the cycles that show the state."""
 
 from __future__ import annotations
 
-import io
 import zlib
+from functools import cache, lru_cache
 from typing import Any, Callable, Iterator, NamedTuple, Optional, Sequence
 
 from zaklimot.format import (
     PLANE_BYTES,
     REFUSALS,
     REGISTERS,
-    Answer,
     Picture,
-    Report,
     Script,
     Step,
+    encode,
+    encoded,
     printed,
     refusal_of,
 )
 from zaklimot_tools.explain.raster import character_dots, line_characters
 from zaklimot_tools.report.dumps import (
     DumpedBank,
+    all_bytes_in,
     beam_in,
     bios_data_in,
-    bytes_in,
     latches_in,
     registers_in,
 )
 
+from .answers import FRAME, REGISTERS_SHOWN, answers_in, line_count
 from .making import dots_answer
 from .parts import (
     ANSWER,
@@ -52,6 +53,8 @@ from .reading import step_of
 REGISTER_PARTS = ("misc", "seq", "gfx", "crtc", "attr", "dac_index")
 # So many bytes of a plane has a dump, and so many entries the DAC.
 MOST_DUMPED, PLANES, ENTRIES = 256, 4, 256
+# The refusals as reports have them, with their names.
+REFUSED_AS = {refusal_of(number): name for number, name in REFUSALS.items()}
 # The words of the beam's dump, and of that of the BIOS data, by the names of the fields.
 BEAM_WORDS = {**{name: name for name in BEAM}, "character": "char"}
 BDA_WORDS = {
@@ -68,10 +71,11 @@ BDA_WORDS = {
 
 
 class Dump(NamedTuple):
-    """The dumps of a state: the steps, and what their answers tell of it."""
+    """The dumps of a state: the steps, their bytes, and what the lines of their answers tell."""
 
     steps: list[Step]
-    read: Callable[[Sequence[Answer]], Parts]
+    script: bytes
+    read: Callable[[Sequence[str]], Parts]
 
 
 def reached(element: Element) -> list[Step]:
@@ -124,13 +128,6 @@ class PlaceRun(NamedTuple):
     length: int
 
 
-class DumpedPlaces(NamedTuple):
-    """What is dumped of the planes, and which entries of the DAC."""
-
-    planes: list[PlaceRun]
-    entries: list[int]
-
-
 def _runs(places: Sequence[int], most: int) -> list[PlaceRun]:
     """Places as runs of so many at most."""
     runs: list[PlaceRun] = []
@@ -145,54 +142,85 @@ def _runs(places: Sequence[int], most: int) -> list[PlaceRun]:
 
 def dump_of(state: Parts) -> Dump:
     """The dumps of the parts that a state has."""
-    steps: list[Step] = []
+    shown: list[Step] = []
     if any(name in state for name in (*NUMBERS, *REGISTER_PARTS, "dac_waiting")):
-        steps.append(Step("show regs"))
-    steps += [Step(f"show {name}") for name in ("latches", "beam", "bda") if name in state]
-    places = _dumped_places(state)
-    for run in places.planes:
-        steps += [Step("show plane", (plane, *run)) for plane in range(PLANES)]
-    steps += [Step("show dac", (entry,)) for entry in places.entries]
-    return Dump(steps, lambda answers: _read_dumps(steps, answers, state))
+        shown.append(REGISTERS_SHOWN)
+    shown += [Step(f"show {name}") for name in ("latches", "beam", "bda") if name in state]
+    memory = _whole_dump() if SUMS in state else _place_dumps(*_places(state))
+    script = b"".join(map(encoded, shown)) + memory.script
+    return Dump([*shown, *memory.steps], script, lambda lines: _read_dumps(shown, lines, state))
 
 
-def _dumped_places(state: Parts) -> DumpedPlaces:
-    """What is dumped of planes and DAC: all of both for the sums."""
-    if SUMS in state:
-        planes = [PlaceRun(first, MOST_DUMPED) for first in range(0, PLANE_BYTES, MOST_DUMPED)]
-        return DumpedPlaces(planes, [*range(ENTRIES)])
-    offsets = [place[0] for place in state.get("planes", ())]
-    entries = [place[0] for place in state.get("colours", ())]
-    return DumpedPlaces(_runs(offsets, MOST_DUMPED), entries)
+def _places(state: Parts) -> tuple[tuple[int, ...], tuple[int, ...]]:
+    """The offsets and the entries of the DAC that a state lists."""
+    offsets = tuple(place[0] for place in state.get("planes", ()))
+    return offsets, tuple(place[0] for place in state.get("colours", ()))
 
 
-def _read_dumps(steps: Sequence[Step], answers: Sequence[Answer], state: Parts) -> Parts:
-    """The parts of a state from the answers of its dumps."""
+class MemoryDump(NamedTuple):
+    """The dumps of planes and DAC: the steps, and their bytes."""
+
+    steps: list[Step]
+    script: bytes
+
+
+# The state after a step has most often the places of that before it.
+@lru_cache(maxsize=2)
+def _place_dumps(offsets: tuple[int, ...], entries: tuple[int, ...]) -> MemoryDump:
+    """The dumps of places in all planes, and of entries of the DAC."""
+    return _memory_dump(_runs(offsets, MOST_DUMPED), entries)
+
+
+@cache
+def _whole_dump() -> MemoryDump:
+    """The dumps of all planes and of the whole DAC, for the sums."""
+    runs = [PlaceRun(first, MOST_DUMPED) for first in range(0, PLANE_BYTES, MOST_DUMPED)]
+    return _memory_dump(runs, range(ENTRIES))
+
+
+def _memory_dump(runs: Sequence[PlaceRun], entries: Sequence[int]) -> MemoryDump:
+    steps = [Step("show plane", (plane, *run)) for run in runs for plane in range(PLANES)]
+    steps += [Step("show dac", (entry,)) for entry in entries]
+    return MemoryDump(steps, b"".join(map(encoded, steps)))
+
+
+def _read_dumps(shown: Sequence[Step], lines: Sequence[str], state: Parts) -> Parts:
+    """The parts of a state from the lines of its dumps, of which those of memory come last."""
     told: Parts = {}
-    planes = [bytearray(PLANE_BYTES) for _ in range(PLANES)]
-    entries: dict[int, list[int]] = {}
-    for step, answer in zip(steps, answers):
-        if step.name == "show plane":
-            plane, first, count = step.numbers
-            planes[plane][first : first + count] = bytes_in(answer.answer)
-        elif step.name == "show dac":
-            entries[step.numbers[0]] = list(bytes_in(answer.answer))
-        else:
-            told.update(READERS[step.name](answer))
-    told["planes"] = [
-        [offset, *(planes[plane][offset] for plane in range(PLANES))]
-        for offset, *_ in state.get("planes", ())
-    ]
-    told["colours"] = [[entry, *entries[entry]] for entry, *_ in state.get("colours", ())]
-    if SUMS in state:
-        dac = b"".join(bytes(entries[entry]) for entry in range(ENTRIES))
-        told[SUMS] = [zlib.crc32(part) for part in (*planes, dac)]
+    at = 0
+    for step in shown:
+        count = line_count((step,))
+        told.update(READERS[step.name]([_unnumbered(lines[at]), *lines[at + 1 : at + count]]))
+        at += count
+    told.update(_read_memory(lines[at:], state))
     return {name: told[name] for name in state}
 
 
-def _read_registers(answer: Answer) -> Parts:
+def _read_memory(lines: Sequence[str], state: Parts) -> Parts:
+    """Planes, colours and sums from the lines of the dumps of memory."""
+    offsets, entries = _places(state)
+    is_whole = SUMS in state
+    split = len(lines) - (ENTRIES if is_whole else len(entries))
+    planes = [all_bytes_in(lines[plane:split:PLANES]) for plane in range(PLANES)]
+    dac = all_bytes_in(lines[split:])
+    # Where the bytes of each place and of each entry stand in what was dumped.
+    at = [*(offsets if is_whole else range(len(offsets)))]
+    rows = [*(entries if is_whole else range(len(entries)))]
+    told: Parts = {
+        "planes": [[offset, *(plane[n] for plane in planes)] for offset, n in zip(offsets, at)],
+        "colours": [[entry, *dac[3 * n : 3 * n + 3]] for entry, n in zip(entries, rows)],
+    }
+    return {**told, SUMS: [zlib.crc32(part) for part in (*planes, dac)]}
+
+
+def _unnumbered(line: str) -> str:
+    """The first line of an answer, without the step's number."""
+    return line.partition(" ")[2]
+
+
+def _read_registers(answer: Sequence[str]) -> Parts:
     """The parts in the lines of `show regs`."""
-    read = registers_in(answer.lines)
+    read = registers_in(answer)
     told: Parts = {"misc": read.misc, "attr_is_data": int(read.is_data)}
     for name in ("seq", "crtc", "gfx", "attr"):
         bank: DumpedBank = getattr(read, name)
@@ -202,24 +230,24 @@ def _read_registers(answer: Answer) -> Parts:
     return told
 
 
-def _read_latches(answer: Answer) -> Parts:
-    return {"latches": list(latches_in(answer.answer))}
+def _read_latches(answer: Sequence[str]) -> Parts:
+    return {"latches": list(latches_in(answer[0]))}
 
 
-def _read_beam(answer: Answer) -> Parts:
-    read = beam_in(answer.answer)
+def _read_beam(answer: Sequence[str]) -> Parts:
+    read = beam_in(answer[0])
     return {"beam": {name: read[word] for name, word in BEAM_WORDS.items()}}
 
 
-def _read_bda(answer: Answer) -> Parts:
-    dumped = bios_data_in(answer.answer)
+def _read_bda(answer: Sequence[str]) -> Parts:
+    dumped = bios_data_in(answer[0])
     read: Parts = {name: dumped.numbers[word] for name, word in BDA_WORDS.items()}
     read[CURSORS] = dumped.cursors
     return {"bda": {name: read[name] for name in BDA}}
 
 
-READERS: dict[str, Callable[[Answer], Parts]] = {
-    "show regs": _read_registers,
+READERS: dict[str, Callable[[Sequence[str]], Parts]] = {
+    REGISTERS_SHOWN.name: _read_registers,
     "show latches": _read_latches,
     "show beam": _read_beam,
     "show bda": _read_bda,
@@ -227,10 +255,10 @@ READERS: dict[str, Callable[[Answer], Parts]] = {
 
 
 class Confirmed(NamedTuple):
-    """An element's script with its dumps, and what its report says: the two states and the
-    answer."""
+    """The bytes of an element's script with its dumps, and what its report says: the two states
+    and the answer."""
 
-    script: Script
+    script: bytes
     read: Callable[[bytes], Element]
 
 
@@ -238,44 +266,45 @@ def confirming(element: Element) -> Confirmed:
     """The script of an element with the dumps of the state before and after its step."""
     before = dump_of(element[INITIAL])
     after = dump_of(element[FINAL])
-    steps = [*reached(element), *before.steps, scripted(element), *after.steps]
+    reaching = reached(element)
+    stepping = scripted(element)
     is_line = LINE in element
-    at = len(steps) - len(after.steps) - 1
+    steps = [*reaching, *before.steps, stepping, *after.steps, *([FRAME] if is_line else [])]
 
     def read(report: bytes) -> Element:
-        # Bytes in memory are no raw stream to a type checker, but are read as one.
-        stream = io.BufferedReader(io.BytesIO(report))  # type: ignore[arg-type]
-        answers = list(Report(stream).answers())
+        lines, picture = answers_in(report, steps)
+        at = len(reaching) + line_count(before.steps)
         told: Element = {
-            INITIAL: before.read(answers[at - len(before.steps) : at]),
-            FINAL: after.read(answers[at + 1 : at + 1 + len(after.steps)]),
+            INITIAL: before.read(lines[len(reaching) : at]),
+            FINAL: after.read(lines[at + 1 :]),
         }
         if is_line:
-            return {**told, ANSWER: _line_of(answers[-1], element)}
-        return {**told, **_step_answer(answers[at])}
+            return {**told, ANSWER: _line_of(picture, element)}
+        return {**told, **_step_answer(_unnumbered(lines[at]))}
 
-    return Confirmed(Script((*steps, *([Step("frame")] if is_line else ()))), read)
+    leading = b"".join(map(encoded, reaching)) + before.script + encoded(stepping)
+    ending = after.script + (encoded(FRAME) if is_line else b"")
+    return Confirmed(encode(Script()) + leading + ending, read)
 
 
-def _step_answer(answer: Answer) -> Element:
+def _step_answer(answer: str) -> Element:
     """What a step's answer tells, as members of an element."""
-    if answer.refusal:
-        return {REFUSED: REFUSALS[answer.refusal]}
-    if answer.answer == "ok":
+    if answer in REFUSED_AS:
+        return {REFUSED: REFUSED_AS[answer]}
+    if answer == "ok":
         return {}
-    if answer.answer.startswith("ax="):
-        registers, _, block = answer.answer.partition(" block ")
+    if answer.startswith("ax="):
+        registers, _, block = answer.partition(" block ")
         told: Parts = {word[:2]: int(word[3:], 16) for word in registers.split()}
         return {ANSWER: {**told, **({"block": list(bytes.fromhex(block))} if block else {})}}
-    return {ANSWER: int(answer.answer, 16)}
+    return {ANSWER: int(answer, 16)}
 
 
-def _line_of(answer: Answer, element: Element) -> Any:
+def _line_of(picture: Optional[Picture], element: Element) -> Any:
     """The dots of the element's line, of the picture of its frame."""
     number = element[INITIAL]["beam"]["line"]
-    picture = answer.picture
     row: list[int] = []
-    if isinstance(picture, Picture) and number < picture.height:
+    if picture is not None and number < picture.height:
         dots = picture.row(number)
         row = [dots[at] << 12 | dots[at + 1] << 6 | dots[at + 2] for at in range(0, len(dots), 3)]
     return dots_answer(row, element[INITIAL])

@@ -91,7 +91,7 @@ def _add_coverage(commands: cli.Commands) -> None:
 
 
 def _add_confirm(commands: cli.Commands) -> None:
-    told = "runs the script of each element on the program, and compares its report"
+    told = "runs the script of each element, and compares its report"
     example = "tools/vga-steps confirm examples/steps/*.json.gz --jobs 2"
     made = cli.command(commands, "confirm", _job("confirm"), told, example)
     _add_files(made)
