@@ -22,8 +22,8 @@ from zaklimot_tools.steps.running import Runner, runner
 from zaklimot_tools.steps.scripts import confirming as confirmed
 from zaklimot_tools.steps.scripts import reached, scripted
 
-from .stepping import STEPS_EXAMPLES
-from .tools import PROGRAM, Folder, refused, want_program
+from .stepping import STEPS_EXAMPLES, steps
+from .tools import PROGRAM, Folder, hold_undone, refused, want_program
 
 # So many of the examples of each kind are run by both.
 FEW = 3
@@ -97,6 +97,13 @@ class Runs(Folder):
             ],
         )
 
+    def test_the_program_that_is_named_runs_them(self) -> None:
+        program = self.program("other", "raise SystemExit('oh')")
+        file = STEPS_EXAMPLES / "clock.json.gz"
+        for words in ((file,), (file, file, "--jobs", 2)):
+            done = steps("confirm", *words, "--first", 1, "--vga", program)
+            hold_undone(self, done, f"{program}: it ended with status 1: oh$")
+
     def test_what_is_no_font_file(self) -> None:
         path = self.write("fonts", "no fonts")
         with runner(None, path) as library:
@@ -125,11 +132,19 @@ class Confirming(unittest.TestCase):
     def test_each_number_is_told(self) -> None:
         with runner(None, str(FONTS)) as library:
             for kind in CHANGED:
-                found = [*examples(kind)]
+                # Those of whom the most is told: with sums, if any has them, and without.
+                found = sorted(examples(kind), key=self.variety)
                 summed = [element for element in found if SUMS in element[FINAL]]
                 listed = [element for element in found if SUMS not in element[FINAL]]
-                for element in (*summed[:1], *listed[:1]):
+                for element in (*summed[-1:], *listed[-1:]):
                     self.hold_numbers(element, library)
+
+    @staticmethod
+    def variety(element: Element) -> tuple[int, int]:
+        """How many numbers that are not 0 the places of an element have afterwards, and how many
+        different ones its sums: those of planes that are all 0 are one."""
+        places = element[FINAL].get("planes", ())
+        return len({*element[FINAL].get(SUMS, ())}), sum(any(place[1:]) for place in places)
 
     def hold_numbers(self, element: Element, library: Runner) -> None:
         """Changes each number of the states and the answer in turn, and holds the report of the
