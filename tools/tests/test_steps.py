@@ -93,12 +93,13 @@ class Making(Made):
 
     def test_each_file_is_made_once(self) -> None:
         for jobs in (1, 2):
-            # Names of which one begins the other.
-            words = ("--count", 2, "--only", "clock", "--jobs", jobs)
-            status, output, said = steps("make", self.folder / str(jobs), *words)
-            self.assertEqual((status, said), (0, ""))
-            names = sorted(Path(line).name for line in output.splitlines())
-            self.assertEqual(names, ["clock-changed.json.gz", "clock.json.gz"])
+            for more, ending in ((), ".json.gz"), (("--plain",), ".json"):
+                # Names of which one begins the other.
+                words = ("--count", 2, "--only", "clock", "--jobs", jobs, *more)
+                status, output, said = steps("make", self.folder / f"{jobs}{ending}", *words)
+                self.assertEqual((status, said), (0, ""))
+                names = sorted(Path(line).name for line in output.splitlines())
+                self.assertEqual(names, [f"clock-changed{ending}", f"clock{ending}"])
 
     def test_a_file_has_no_time(self) -> None:
         for path in self.files.values():
