@@ -44,6 +44,7 @@ FRAME, FLIP_FLOP, DAC_INDEX, LATCHES, SEQ, GFX, PLANES = (
 )
 PLANE_BYTES, OVERFLOW, PROTECTING, PROTECT, COMPARE_8 = 1 << 16, 7, 0x11, 0x80, 0x10
 MODE_CONTROL, PANNING = 0x10, 0x13
+PLANE_ENABLE, MOST_SCAN, COMPARE_9, LINE_COMPARE = 0x12, 0x09, 0x40, 0x18
 # The state before a step, and the place of the first byte of a write, if that is all in the window.
 State = bytearray
 # Bytes of the state, by their places.
@@ -91,6 +92,12 @@ def _overflow(element: Element, was: State, now: State) -> Changes:
     return {at: now[at] & ~COMPARE_8 | was[at] & COMPARE_8}
 
 
+def _highest_compare(_: Element, was: State) -> Changes:
+    """The line compare is a line that no frame has."""
+    bits = {LINE_COMPARE: 0xFF, OVERFLOW: COMPARE_8, MOST_SCAN: COMPARE_9}
+    return {CRTC + index: was[CRTC + index] | ones for index, ones in bits.items()}
+
+
 def _steps(name: str, *ports: int) -> Callable[[Element], bool]:
     return lambda element: name in element and (not ports or element[name][0] in ports)
 
@@ -131,6 +138,12 @@ FAULTS = {
         _steps(LINE), lambda _, was: {ATTR + PANNING: (was[ATTR + PANNING] + 1) % 9}
     ),
     "blink-inverted": Fault(_steps(LINE), lambda _, was: {FRAME: was[FRAME] ^ 16}),
+    "all-planes-enabled": Fault(_steps(LINE), lambda *_: {ATTR + PLANE_ENABLE: 0x0F}),
+    "line-compare-ignored": Fault(_steps("advance"), _highest_compare),
+    "colours-kept-by-mode-sets": Fault(
+        lambda element: "int" in element and element["int"]["ax"] < 0x100,
+        after=lambda _, was, now: {at: was[at] for at in range(DAC, DAC + 768)},
+    ),
 }
 
 

@@ -39,6 +39,9 @@ FOUND = {
     "no-protection": ("crt-controller-protected", "protected registers"),
     "panning-by-nine-dots": ("dots-text", "panning"),
     "blink-inverted": ("dots-text", "blink"),
+    "all-planes-enabled": ("dots-16-colours", "a colour's number"),
+    "line-compare-ignored": ("clock", "the end of a line"),
+    "colours-kept-by-mode-sets": ("service-00-mode-sets", "00 sets a mode"),
 }
 # Faults of the toy adapter: what of its text is another, a kind that finds it, and the rule.
 TOY_FAULTS = (
@@ -120,6 +123,15 @@ class Faults(Made):
         counts = {one.rule: one.differ for one in held.branches() if not one.branch}
         self.assertEqual((counts["read mode 0"], counts["enable RAM"]), (0, 0))
         self.assertEqual(counts["a read loads all latches"], held.differ)
+        held = self.held("service-00-mode-sets", "colours-kept-by-mode-sets", COUNT)
+        counts = {one.rule: one.differ for one in held.branches() if not one.branch}
+        others = ("a mode set leaves latches and beam", "no mode is set")
+        self.assertEqual([counts[name] for name in others], [0, 0])
+        held = self.held("dots-16-colours", "all-planes-enabled", COUNT)
+        counts = {one.rule: one.differ for one in held.branches() if not one.branch}
+        self.assertEqual(
+            (counts["a colour's number"], counts["the end of a line"]), (held.differ, 0)
+        )
 
 
 class Loaders(Made):

@@ -152,11 +152,6 @@ def _ends(e: SeenElement) -> str:
     return "the row goes on" if _scan(e) < last_scan(e.crtc) else "the next row"
 
 
-def _line_ends(e: SeenElement, how: str) -> bool:
-    """Whether a line ends in this way, and the frame goes on."""
-    return _ends(e) == how and e.final["beam"]["line"] == e.beam["line"] + 1
-
-
 def _numbered(e: SeenElement, is_selected: bool) -> bool:
     """Whether colour select gives two bits or four of a colour's number."""
     is_packed = _kind(e) == PACKED_256
@@ -171,6 +166,20 @@ def _position(e: SeenElement) -> int:
 def _line_dots(e: SeenElement) -> int:
     """How many dots a line has."""
     return line_characters(e.crtc) * character_dots(e.seq)
+
+
+def _ends_once(e: SeenElement) -> bool:
+    """Whether the clock runs past the end of the line under way, and past no other."""
+    if e.step == LINE:
+        return True
+    dots, position = _line_dots(e), _position(e)
+    return position < dots <= position + e.address < 2 * dots
+
+
+def _line_ends(e: SeenElement, how: str) -> bool:
+    """Whether a line ends in this way, and the frame goes on."""
+    goes_on = e.final["beam"]["line"] == e.beam["line"] + 1
+    return goes_on and _ends_once(e) and _ends(e) == how
 
 
 def _status(e: SeenElement, value: int) -> bool:
@@ -198,6 +207,7 @@ RULES = (
             and e.beam["split"]
             and not e.attr[0x10] & PAN_RESET,
         },
+        ("answer",),
     ),
     ShownRule(
         "the fetch address",
@@ -209,6 +219,7 @@ RULES = (
             "word mode, counter bit 15": partial(_fetches, kind="word, bit 15"),
             "word mode, counter bit 13": partial(_fetches, kind="word, bit 13"),
         },
+        ("answer",),
     ),
     ShownRule(
         "the first dot of a frame",
@@ -232,6 +243,7 @@ RULES = (
             "maps 0 to 3": partial(_has_cell, high_map=False),
             "maps 4 to 7": partial(_has_cell, high_map=True),
         },
+        ("answer",),
     ),
     ShownRule(
         "the ninth dot",
@@ -249,6 +261,7 @@ RULES = (
             "of graphics is 0": lambda e: character_dots(e.seq) == 9
             and (_is(e, PLANES_16) or _is(e, PACKED_256)),
         },
+        ("answer",),
     ),
     ShownRule(
         "underline",
@@ -258,6 +271,7 @@ RULES = (
             "it is shown": partial(_has_cell, underlined=True),
             "not over what is blinked away": partial(_has_cell, underlined=True, away=True),
         },
+        ("answer",),
     ),
     ShownRule(
         "blink",
@@ -271,6 +285,7 @@ RULES = (
             "off: bit 7 is a colour": lambda e: not e.attr[0x10] & BLINK
             and _has_cell(e, blinks=True),
         },
+        ("answer",),
     ),
     ShownRule(
         "cursor",
@@ -281,9 +296,11 @@ RULES = (
             and _has_cell(e, cursor=True),
             "other frames": lambda e: e.beam["frame"] & HALF_OF_CURSOR
             and _has_cell(e, cursor=True),
-            "it is off": partial(_has_cell, hidden_cursor=True),
+            "it is off": lambda e: e.beam["frame"] & HALF_OF_CURSOR == 0
+            and _has_cell(e, hidden_cursor=True),
             "over what is blinked away": partial(_has_cell, cursor=True, away=True),
         },
+        ("answer",),
     ),
     ShownRule(
         "graphics",
@@ -293,6 +310,7 @@ RULES = (
             "16 colours": partial(_is, kind=PLANES_16),
             "256 colours": partial(_is, kind=PACKED_256),
         },
+        ("answer",),
     ),
     ShownRule(
         "the colour of a dot",
@@ -307,6 +325,7 @@ RULES = (
             "by the palette": lambda e: _shown(e) and _kind(e) != PACKED_256,
             "the mask of the DAC": lambda e: _shown(e) and e.dac_mask != 0xFF,
         },
+        ("answer",),
     ),
     ShownRule(
         "a colour's number",
@@ -319,23 +338,27 @@ RULES = (
             and _kind(e) != PACKED_256
             and e.attr[0x12] & 15 != 15,
         },
+        ("answer",),
     ),
     ShownRule(
         "lines that are not displayed",
         PAGE + "a-frame",
         LINES,
         {"no dot": lambda e: not e.answer["entries"]},
+        ("answer",),
     ),
     ShownRule(
         "the end of a line",
         PAGE + "the-end-of-a-line",
-        LINES,
+        (*LINES, *CLOCK),
         {
             "line compare": partial(_line_ends, how="line compare"),
             "the first of two lines": partial(_line_ends, how="double scan"),
             "the row goes on": partial(_line_ends, how="the row goes on"),
             "the next row": partial(_line_ends, how="the next row"),
+            "the split begins": lambda e: e.final["beam"]["split"] and not e.beam["split"],
         },
+        ("beam",),
     ),
     ShownRule(
         "the move of the beam",
@@ -405,6 +428,7 @@ RULES = (
             and e.beam["line"] <= e.crtc[0x12],
             "past the lines": lambda e: _status(e, 1) and e.beam["line"] > e.crtc[0x12],
         },
+        ("answer",),
     ),
     ShownRule(
         "how long the retrace lasts",
@@ -414,6 +438,7 @@ RULES = (
             "a line": partial(_retrace, count=1),
             "16 lines": partial(_retrace, count=16),
         },
+        ("answer",),
     ),
     ShownRule(
         "input status 1 makes the next write an index",
@@ -428,5 +453,6 @@ RULES = (
             and not e.refused
             and e.attr_is_data == 0,
         },
+        ("attr_is_data",),
     ),
 )

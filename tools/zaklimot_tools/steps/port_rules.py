@@ -145,6 +145,7 @@ RULES = (
             "the other base": lambda e: e.refused
             and 0 <= e.address - (COLOUR + MONOCHROME - e.base) <= STATUS,
         },
+        ("refused",),
     ),
     ShownRule(
         "attribute index and data, in turn",
@@ -252,6 +253,7 @@ RULES = (
             "nor among the adapter's own": lambda e: e.refused == "NotDecoded"
             and 0x3B0 <= e.address < 0x3E0,
         },
+        ("refused",),
     ),
     ShownRule(
         "words at ports",

@@ -133,6 +133,7 @@ RULES = (
             "before an unknown function": lambda e: e.refused == "NoMode" and e.ah not in KNOWN,
             "a mode set is done": lambda e: e.ah == 0 and not e.refused and not e.bda["mode"],
         },
+        ("refused",),
     ),
     ShownRule(
         "unknown functions",
@@ -146,6 +147,7 @@ RULES = (
             "no such part of function 13": partial(_refused, function=19, reason="BadFunction"),
             "no such part of function 1A": partial(_refused, function=26, reason="BadFunction"),
         },
+        ("refused",),
     ),
     ShownRule(
         "00 sets a mode",
@@ -170,6 +172,7 @@ RULES = (
             and any(e.latches)
             and not e.has_changed("latches")
         },
+        ("latches", "beam"),
     ),
     ShownRule(
         "01 sets the cursor's scan lines",
