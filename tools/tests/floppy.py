@@ -3,6 +3,7 @@ remembers."""
 
 from __future__ import annotations
 
+import struct
 from typing import Iterator, Optional
 
 from zaklimot_tools.explain.faults import script_of
@@ -65,6 +66,22 @@ def line(letter: str, number: int, data: bytes = b"") -> bytes:
     return (letter + " ".join(filter(None, words))[1:].upper()).encode() + b"\r\n"
 
 
+def pages_of(answers: bytes, image: bytes) -> list[str]:
+    """The pages that a machine shows once it has run an image: that of the checks, and those of the
+    answers."""
+    parts = [answers[at : at + PAGE] for at in range(0, len(answers), PAGE)] or [b""]
+    checks = b"".join(map(check_of, parts))
+    told = struct.pack("<HH", len(answers), sum(answers) & 0xFFFF) + image[TABLE + 12 : TABLE + 16]
+    rows = [row(0xFFFF, told)]
+    rows += (row(0x8001 + at // 2, checks[at : at + ROW]) for at in range(0, len(checks), ROW))
+    pages = ["\n".join(["vga-floppy: the checks of all pages", *rows, KEYS])]
+    for page, part in enumerate(parts):
+        rows = [row(21 * page + at // ROW, part[at : at + ROW]) for at in range(0, len(part), ROW)]
+        rows.append(row(0x8001 + page, checks[2 * page : 2 * page + 2]))
+        pages.append("\n".join([f"vga-floppy: page {page + 1} of {len(parts)}", *rows, KEYS]))
+    return pages
+
+
 class Machine:
     """The machine with an image, which runs at once: its cycles and calls, the answers, the record,
     the image then.
@@ -105,23 +122,7 @@ class Machine:
         left[ANSWERS : ANSWERS + len(self.answers)] = self.answers
         left[MARK : MARK + 16] = b"VGAFDONE" + length + total + image[TABLE + 12 : TABLE + 16]
         self.image = bytes(left)
-        self.pages = list(self._pages(length + total + image[TABLE + 12 : TABLE + 16]))
-
-    def _pages(self, told: bytes) -> Iterator[str]:
-        """The pages that are shown: that of the checks, and those of the answers."""
-        parts = [self.answers[at : at + PAGE] for at in range(0, len(self.answers), PAGE)]
-        parts = parts or [bytearray()]
-        checks = b"".join(map(check_of, parts))
-        rows = [row(0xFFFF, told)]
-        for at in range(0, len(checks), ROW):
-            rows.append(row(0x8001 + at // 2, checks[at : at + ROW]))
-        yield "\n".join(["vga-floppy: the checks of all pages", *rows, KEYS])
-        for page, part in enumerate(parts):
-            rows = [
-                row(21 * page + at // ROW, part[at : at + ROW]) for at in range(0, len(part), ROW)
-            ]
-            rows.append(row(0x8001 + page, checks[2 * page : 2 * page + 2]))
-            yield "\n".join([f"vga-floppy: page {page + 1} of {len(parts)}", *rows, KEYS])
+        self.pages = pages_of(self.answers, image)
 
     def _take(self, at: int) -> int:
         opcode = self._steps[at]
