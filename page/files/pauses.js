@@ -12,11 +12,19 @@ const SEQUENCER_COUNT = 5, CRTC_COUNT = 25, WANTED = { 20: [0x20, 0], 23: [0x0f,
 // Horizontal total, vertical total and overflow, which shape a frame; vertical retrace end, whose
 // bit protects the registers below 8.
 const SHAPE = [0, 6, 7], RETRACE_END = 17, PROTECTS = 0x80, PROTECTED_BELOW = 8;
-// What a mode set by interrupt 10 leaves: miscellaneous output, the dots of a frame, and whether the
-// clock is halved. tools/zaklimot_tools/explain/registers.py has the same.
-const SET_MODE = { 0x03: [0x67, 404100], 0x07: [0x66, 404100], 0x0d: [0x63, 179600, true],
-  0x10: [0xa3, 359200], 0x12: [0xe3, 420000], 0x13: [0x63, 359200] };
-const CLOCKING = 1, HALVED = 8;
+// What a mode set by interrupt 10 leaves: miscellaneous output, clocking mode, and the registers of
+// the CRT controller. tools/zaklimot_tools/explain/registers.py has the same.
+const textMode = underline =>
+  "5F4F50825581BF1F004F0D0E000000009C8E8F28" + underline + "96B9A3FF";
+const SET_MODE = {
+  0x03: [0x67, 0, textMode("1F")],
+  0x07: [0x66, 0, textMode("0F")],
+  0x0d: [0x63, 9, "2D2728902B80BF1F00C00000000000009C8E8F140096B9E3FF"],
+  0x10: [0xa3, 1, "5F4F50825480BF1F004000000000000083855D280F63BAE3FF"],
+  0x12: [0xe3, 1, "5F4F508254800B3E0040000000000000EA8CDF2800E704E3FF"],
+  0x13: [0x63, 1, "5F4F50825480BF1F00410000000000009C8E8F284096B9A3FF"],
+};
+const CLOCKING = 1;
 // Microseconds that are put together before they become a step: about a line.
 export const LEAST_PAUSE = 30n;
 
@@ -27,10 +35,8 @@ export class TimingRegisters {
   crtc = new Uint8Array(32);
   seqIndex = 0;
   crtcIndex = 0;
-  /** The registers of the CRT controller that were written. */
+  /** The registers of the CRT controller that were written, by themselves or by a mode set. */
   written = new Set();
-  /** The frame of the mode that was set, as long as no register gives it another shape. */
-  #frame = null;
 
   /** Takes a step: { name, isPort, isWord, address, value }, or a call: { name, mode }, mode being AX. */
   take({ name, isWord, address, value, mode }) {
@@ -72,10 +78,12 @@ export class TimingRegisters {
 
   /** Takes a call of interrupt 10, by its AX. */
   call(ax) {
-    const [misc, dots, isHalved = false] = (ax >> 8 === 0 && SET_MODE[ax & 0x7f]) || [];
+    const [misc, clocking, crtc] = (ax >> 8 === 0 && SET_MODE[ax & 0x7f]) || [];
     if (misc === undefined) return;
     this.misc = misc;
-    this.#frame = { dots, seq: [0, isHalved ? HALVED : 0] };
+    this.seq[CLOCKING] = clocking;
+    this.crtc.set(crtc.match(/../g).map(byte => parseInt(byte, 16)));
+    for (const register of SHAPE) this.written.add(register);
   }
 
   write(port, value) {
@@ -89,7 +97,6 @@ export class TimingRegisters {
   writeSequencer(value) {
     if (!this.hasSequencer(this.seqIndex)) return;
     this.seq[this.seqIndex] = value;
-    if (this.seqIndex === CLOCKING) this.#frame = null;
   }
 
   writeCrtc(value) {
@@ -98,15 +105,10 @@ export class TimingRegisters {
     if (crtcIndex < PROTECTED_BELOW && crtc[RETRACE_END] & PROTECTS) return;
     crtc[crtcIndex] = value;
     written.add(crtcIndex);
-    if (SHAPE.includes(crtcIndex)) this.#frame = null;
   }
 
   /** The dots of a frame and those of a second; null where the steps have chosen none. */
   get speed() {
-    if (this.#frame && this.misc !== null) {
-      const { misc, crtc } = this, { dots, seq } = this.#frame, found = frameSpeed({ misc, crtc, seq });
-      return found && { dots, rate: found.rate };
-    }
     if (this.misc === null || !SHAPE.every(register => this.written.has(register))) return null;
     return frameSpeed(this);
   }

@@ -110,9 +110,11 @@ test("calls, dots and frames that were kept are those of vga-trace", () => {
   assert.match(text, /^put B8000 41\nput B8001 07$/m);
   // Without dots the time between calls is that of the modes that they set.
   const micros = calls.map((call, i) => `${100 + i * 40} ${call}\n${120 + i * 40} w p 3C4 ${i}02 2\n`).join("") +
-    "99999999 w p 3D4 6300 2\n199999999 w p 3C8 1 1\n";
+    "99999999 w p 3D4 6300 2\n199999999 w p 3C8 1 1\n" +
+    // A split screen writes overflow, which is protected first: the others stay as the mode has them.
+    "200000000 w p 3D4 0C11 2\n200000000 w p 3D4 2E07 2\n299999999 w p 3C8 1 1\n";
   assert.equal(textOfTrace(micros), toolText(micros, "--time"));
-  assert.equal(textOfTrace(micros).match(/advance/g).length, 4);
+  assert.equal(textOfTrace(micros).match(/advance/g).length, 6);
   assert.throws(() => textOfTrace("0 w p 3C2 67 1\n1 int 0003 0 0\n"), /Line 2 of the trace/);
 });
 

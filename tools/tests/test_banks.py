@@ -7,7 +7,7 @@ from typing import Iterator
 
 from zaklimot.format import Step, parse_line
 from zaklimot_tools.explain.banks import Bank, Banks
-from zaklimot_tools.explain.registers import MODES, Registers
+from zaklimot_tools.explain.registers import Registers
 
 from .tools import run_texts
 
@@ -85,7 +85,7 @@ class Told(unittest.TestCase):
         return registers
 
     def test_a_protected_register_leaves_the_frame_of_the_mode(self) -> None:
-        usual = (MODES[3].dots, 28_322_000)
+        usual = (404_100, 28_322_000)
         # A mode set protects the registers; so do 8E in register 11, in the script.
         protecting = ("int ax=3", "outw 3d4 8e11", "outw 3d4 0007")
         self.assertEqual(self.after(*protecting).speed(), usual)

@@ -218,6 +218,12 @@ class Animations(Folder):
                     text,
                 ),
                 ("int ax=3;out 3C2 6F", None),
+                # A mode set protects registers 0 to 7; without that, each leaves the others'
+                # parts of the shape as they are.
+                ("int ax=3;outw 3D4 0F07;outw 3D4 0000", text),
+                ("int ax=d;outw 3D4 0E11;outw 3D4 0F07", narrow),
+                ("int ax=12;outw 3D4 0C11;outw 3D4 0106", (515 * 800, 25_175_000)),
+                ("int ax=3;outw 3C4 0101", (100 * 8 * 449, 28_322_000)),
                 # Registers 0 to 7 alone are protected.
                 (
                     (

@@ -33,8 +33,8 @@ from zaklimot_tools.trace.parts import Parts
 from zaklimot_tools.trace.recording import PHASES, QemuMachine, Session
 from zaklimot_tools.trace.replaying import ALLOWED, PAGE, SEEN, Replay, Screen, whole_rows
 from zaklimot_tools.trace.state import State
-from zaklimot_tools.trace.step import ADVANCE, FRAME, IN, OUT, OUTW, PUT, TraceStep
-from zaklimot_tools.trace.trace import SCREEN, opened
+from zaklimot_tools.trace.step import ADVANCE, FRAME, IN, INT, OUT, OUTW, PUT, TraceStep
+from zaklimot_tools.trace.trace import SCREEN, Call, opened
 
 from .test_trace import BEGIN, listed, qemu, registers
 from .tools import (
@@ -810,6 +810,15 @@ class RealTime(Folder):
         polls = [TraceStep(IN, 0x3DA, value, 900 + value) for value in (0, 8)]
         found = self.beamed(*tall, *polls, TraceStep(OUT, 0x3C9, 0, 908))
         self.assertEqual(found[-2:], [(ADVANCE, 528 * 900), (OUT, 0x3C9)])
+
+    def test_the_beam_of_a_mode_that_a_call_sets(self) -> None:
+        # Mode 0D, whose retrace begins in line 412. Overflow, written for a split, leaves that.
+        mode = TraceStep(INT, time=0, call=Call((0x0D, 0, 0, 0), b""))
+        split = [TraceStep(OUTW, 0x3D4, word, 0) for word in (0x0E11, 0x0F07)]
+        for steps in ([mode], [mode, *split]):
+            polls = [TraceStep(IN, 0x3DA, value, 13_000 + value) for value in (0, 8)]
+            found = self.beamed(*steps, *polls, TraceStep(OUT, 0x3C9, 0, 13_008))
+            self.assertEqual(found[-2:], [(ADVANCE, 412 * 400), (OUT, 0x3C9)])
 
     def test_long_silences_within_frames_are_cut(self) -> None:
         beamed = Beamed(0.5)

@@ -7,7 +7,7 @@ import unittest
 from pathlib import Path
 from typing import Callable, Sequence
 
-from zaklimot.format import REFUSALS, Answer
+from zaklimot.format import REFUSALS, Answer, Step
 from zaklimot_tools import TOP
 from zaklimot_tools.explain.faults import explained
 from zaklimot_tools.explain.mistakes import mistake_in
@@ -214,16 +214,35 @@ class Faults(Folder):
 class Modes(unittest.TestCase):
     """The tools' tables of modes are those of docs/MODES.md."""
 
+    PAGE = (TOP / "docs/MODES.md").read_text("utf-8")
     ROWS = {
         row[1]: [cell.strip() for cell in row[2].split("|")]
-        for row in re.finditer(
-            r"(?m)^\| ([^|]*) \|(.*)\|$", (TOP / "docs/MODES.md").read_text("utf-8")
-        )
+        for row in re.finditer(r"(?m)^\| ([^|]*) \|(.*)\|$", PAGE)
     }
 
     def test_the_dots_of_a_frame(self) -> None:
         told = [int(cell.replace(",", "")) for cell in self.ROWS["dots of a frame"]]
-        self.assertEqual([mode.dots for mode in MODES.values()], told)
+        dots = []
+        for mode in MODES:
+            registers = Registers()
+            registers.take(Step("int", (mode, 0, 0, 0)))
+            speed = registers.speed()
+            dots.append(speed and speed.dots)
+        self.assertEqual(dots, told)
+
+    def test_the_registers(self) -> None:
+        crtc = re.search(r"(?s)\*\*CRT controller\*\*(.*)\*\*Attribute controller", self.PAGE)
+        assert crtc is not None
+        names = re.findall(r"(?m)^\| ([0-9A-F]+ [^|]*) \|", crtc[1])
+        self.assertEqual(len(names), 25)
+        for column, mode in enumerate(MODES.values()):
+            told = bytes(int(self.ROWS[name][column], 16) for name in names)
+            self.assertEqual(mode.crtc, told)
+            misc, clocking, window = (
+                int(self.ROWS[name][column], 16)
+                for name in ("miscellaneous output", "1 clocking mode", "6 miscellaneous")
+            )
+            self.assertEqual((mode.misc, mode.clocking, mode.map), (misc, clocking, window >> 2))
 
     def test_the_pixels_of_what_is_drawn(self) -> None:
         sizes = dict(zip((f"{mode:02X}" for mode in MODES), self.ROWS["pixels"]))

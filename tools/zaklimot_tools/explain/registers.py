@@ -32,15 +32,13 @@ from .wordings import WORDINGS, said
 
 INDEX_PORTS = (SEQUENCER, GRAPHICS, MONOCHROME, COLOUR)
 # The ports by which a script tells how long a frame lasts.
-TOLD_PORTS = {MISC, *(port + 1 for port in INDEX_PORTS)}
+TOLD_PORTS = {MISC, MONOCHROME + 1, COLOUR + 1}
 # Dots a second, by bits 3 and 2 of miscellaneous output.
 CLOCKS = {0: 25_175_000, 1: 28_322_000}
 # The seconds of a frame where a script doesn't tell.
 USUAL = 1 / 70
-# The registers that shape a frame, by the port of their index, which is one of two for the CRT
-# controller; and those of them that a script tells where no mode set does.
-SHAPING = {(SEQUENCER, CLOCKING), (COLOUR, TOTAL), (COLOUR, LINES), (COLOUR, OVERFLOW)}
-TELLING = {(COLOUR, TOTAL), (COLOUR, LINES), (COLOUR, OVERFLOW)}
+# The registers of the CRT controller by which a script tells the shape of a frame.
+TELLING = {TOTAL, LINES, OVERFLOW}
 _PORTS = WORDINGS["ports"]
 READ_ALONE, READ_AND_WRITTEN, CRT_PORTS = (
     {int(port, 16) for port in _PORTS[name]}
@@ -60,22 +58,28 @@ CHANGING = "oOiI"
 
 
 class ModeSet(NamedTuple):
-    """What a mode set leaves: miscellaneous output, dots of a frame, memory map, and whether the
-    clock is halved."""
+    """What a mode set leaves: miscellaneous output, the memory map, clocking mode, and the
+    registers of the CRT controller."""
 
     misc: int
-    dots: int
-    map: int = 1
-    is_halved: bool = False
+    map: int
+    clocking: int
+    crtc: bytes
 
 
+def _mode(misc: int, map_: int, clocking: int, crtc: str) -> ModeSet:
+    return ModeSet(misc, map_, clocking, bytes.fromhex(crtc))
+
+
+# The tables of docs/MODES.md.
+_TEXT = "5F4F50825581BF1F004F0D0E000000009C8E8F28{}96B9A3FF".format
 MODES = {
-    0x03: ModeSet(0x67, 404_100, 3),
-    0x07: ModeSet(0x66, 404_100, 2),
-    0x0D: ModeSet(0x63, 179_600, is_halved=True),
-    0x10: ModeSet(0xA3, 359_200),
-    0x12: ModeSet(0xE3, 420_000),
-    0x13: ModeSet(0x63, 359_200),
+    0x03: _mode(0x67, 3, 0x00, _TEXT("1F")),
+    0x07: _mode(0x66, 2, 0x00, _TEXT("0F")),
+    0x0D: _mode(0x63, 1, 0x09, "2D2728902B80BF1F00C00000000000009C8E8F140096B9E3FF"),
+    0x10: _mode(0xA3, 1, 0x01, "5F4F50825480BF1F004000000000000083855D280F63BAE3FF"),
+    0x12: _mode(0xE3, 1, 0x01, "5F4F508254800B3E0040000000000000EA8CDF2800E704E3FF"),
+    0x13: _mode(0x63, 1, 0x01, "5F4F50825480BF1F00410000000000009C8E8F284096B9A3FF"),
 }
 
 
@@ -103,11 +107,9 @@ class Registers:
         self.banks = Banks()
         # The mode; None before a script has told it.
         self.mode: Optional[int] = None
-        # The registers of SHAPING that a script has told itself.
-        self._told: set[tuple[int, int]] = set()
+        # The registers of TELLING that a script has told.
+        self._told: set[int] = set()
         self._has_clock = False
-        # Whether the frame has the shape that the mode set gave it.
-        self._is_of_mode = False
         # Why a step is refused now: the same steps come again and again.
         self.why = lru_cache(1000)(partial(why_refused, state=self))
 
@@ -132,24 +134,27 @@ class Registers:
             if self.banks.controller + STATUS - step.numbers[0] in range(1 + (name == "inw")):
                 self.banks.read_status()
         elif name == "int" and step.numbers[0] >> 8 == 0 and step.numbers[0] & 0x7F in MODES:
-            self.mode = step.numbers[0] & 0x7F
-            self.banks.misc = MODES[self.mode].misc
-            self.banks.gfx.registers[MAP] = MODES[self.mode].map << 2
-            self.banks.is_data = False
-            self._has_clock = True
-            self._is_of_mode = True
+            self._set_mode(step.numbers[0] & 0x7F)
+
+    def _set_mode(self, mode: int) -> None:
+        left = MODES[mode]
+        banks = self.banks
+        self.mode = mode
+        banks.misc = left.misc
+        banks.gfx.registers[MAP] = left.map << 2
+        banks.seq.registers[CLOCKING] = left.clocking
+        banks.crtc.registers[:] = left.crtc
+        banks.is_data = False
+        self._told |= TELLING
+        self._has_clock = True
 
     def _note(self, port: int) -> None:
         """Notes what a write to a port has told."""
-        bank = self.banks.bank(port - 1)
+        crtc = self.banks.crtc
         if port == MISC:
             self._has_clock = True
-        elif bank is not None:
-            register = (COLOUR if bank is self.banks.crtc else port - 1, bank.index & 0x1F)
-            # It takes the place of a mode's, unless it is protected.
-            if register in SHAPING and bank.is_open():
-                self._told.add(register)
-                self._is_of_mode = False
+        elif self.banks.bank(port - 1) is crtc and crtc.number in TELLING and crtc.is_open():
+            self._told.add(crtc.number)
 
     def why_of(self, words: str, answer: Answer) -> str:
         """Why a step was refused, by its answer; nothing of a step that was done, which is
@@ -172,15 +177,10 @@ class Registers:
     def speed(self) -> Optional[Speed]:
         """How fast the beam is; None where the script doesn't tell."""
         clock = CLOCKS.get(self.banks.misc >> 2 & 3) if self._has_clock else None
-        if clock is None or not (self._is_of_mode or TELLING <= self._told):
+        if clock is None or not TELLING <= self._told:
             return None
-        if self._is_of_mode and self.mode is not None:
-            dots = MODES[self.mode].dots
-            is_halved = MODES[self.mode].is_halved
-        else:
-            dots = prod(self.banks.shape)
-            is_halved = bool(self.banks.seq.registers[CLOCKING] & 8)
-        return Speed(dots, clock / (2 if is_halved else 1))
+        is_halved = bool(self.banks.seq.registers[CLOCKING] & 8)
+        return Speed(prod(self.banks.shape), clock / (2 if is_halved else 1))
 
 
 def why_refused(words: str, number: int, state: Registers) -> str:
