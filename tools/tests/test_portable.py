@@ -21,7 +21,7 @@ from zaklimot_tools.core.trouble import Trouble
 from zaklimot_tools.dev.testing.running import BUILT
 from zaklimot_tools.script import portable, program
 from zaklimot_tools.script.portable import portable_program
-from zaklimot_tools.script.program import found_program
+from zaklimot_tools.script.program import built_program, found_program
 from zaklimot_tools.script.program import PROGRAM as BUILT_PROGRAM
 
 from . import commands
@@ -285,9 +285,11 @@ class Found(Cache):
                 self.assertEqual(found_program(), released)
                 with mock.patch.object(program, "RELEASED", none):
                     self.assertEqual(found_program(), in_path)
+                    self.assertEqual((built_program(named), built_program()), (named, in_path))
         with mock.patch.multiple(program, PROGRAM=none, RELEASED=none), mock.patch.dict(
             os.environ, PATH="/usr/bin:/bin"
         ):
+            self.assertIsNone(built_program())
             with contextlib.redirect_stderr(io.StringIO()):
                 self.assertEqual(Path(found_program()).parents[1], self.cache)
             with mock.patch.object(portable, "SOURCES", (none,)):
