@@ -18,6 +18,11 @@ if TYPE_CHECKING:
 
 # Red, green and blue, six bits each.
 Colour = tuple[int, int, int]
+# Colours, each with how many dots have it.
+Box = dict[Colour, int]
+# How far a colour is from another one, its number, and the colour itself. Very many of these are
+# made and sorted, which takes nearly twice as long where they are no plain tuples.
+Neighbour = tuple[int, int, Colour]
 # How the eye weighs a difference of red, of green and of blue. Blue counts for no less: a dither
 # would else mix the blue of a sky with greens.
 WEIGHTS = (3, 4, 2)
@@ -44,16 +49,6 @@ FINE = 16
 FEW = 1 << 13
 # An ordered dither of four by four dots: the order in which they become brighter.
 ORDERED = ((0, 8, 2, 10), (12, 4, 14, 6), (3, 11, 1, 9), (15, 7, 13, 5))
-
-
-class ColourCount(NamedTuple):
-    """A colour, and how many dots have it."""
-
-    colour: Colour
-    dots: int
-
-
-Box = list[ColourCount]
 
 
 class BoxSpan(NamedTuple):
@@ -87,14 +82,6 @@ class BoxGain(NamedTuple):
     won: int
     number: int
     middles: list[Colour]
-
-
-class Neighbour(NamedTuple):
-    """A colour beside another one: how far it is from that, and its number."""
-
-    far: int
-    number: int
-    colour: Colour
 
 
 def arrays_for(dots: int) -> Optional[Arrays]:
@@ -156,22 +143,17 @@ class Nearest:
         if number not in self._around:
             own = self._colours[number]
             self._around[number] = sorted(
-                Neighbour(distance(own, colour), other, colour)
+                (distance(own, colour), other, colour)
                 for other, colour in enumerate(self._colours)
                 if other != number
             )
         return self._around[number]
 
 
-def _box_of(counts: Counter[Colour]) -> Box:
-    """The box of all colours that were counted."""
-    return list(map(ColourCount, counts, counts.values()))
-
-
 def middle_colours(counts: Counter[Colour], most: int) -> list[Colour]:
     """So many colours in the middle of those of an image: by cutting boxes of colours at their
     median, and k-means."""
-    whole = _box_of(_fewer(counts))
+    whole = _fewer(counts)
     return sorted(set(_refined(whole, [_mean(box) for box in _cut_boxes(whole, most)])))
 
 
@@ -179,7 +161,7 @@ def outer_colours(counts: Counter[Colour], most: int) -> list[Colour]:
     """So many colours of an image that lie far apart: each is the one that is farthest from those
     before it."""
     counts = _fewer(counts)
-    middle = _mean(_box_of(counts))
+    middle = _mean(counts)
     chosen = [max(counts, key=lambda colour: (distance(colour, middle), colour))]
     far = {colour: distance(colour, chosen[0]) for colour in counts}
     while len(chosen) < min(most, len(counts)):
@@ -219,34 +201,33 @@ def _fewer(counts: Counter[Colour]) -> Counter[Colour]:
     alike."""
     shift = 0
     fewer = counts
-    whole = _box_of(counts) if len(counts) > MANY else []
     while len(fewer) > MANY:
         shift += 1
         boxes: dict[Colour, Box] = {}
-        for entry in whole:
-            red, green, blue = entry.colour
-            boxes.setdefault((red >> shift, green >> shift, blue >> shift), []).append(entry)
+        for colour, count in counts.items():
+            red, green, blue = colour
+            boxes.setdefault((red >> shift, green >> shift, blue >> shift), {})[colour] = count
         fewer = Counter()
         for box in boxes.values():
-            fewer[_mean(box)] += sum(dots for _, dots in box)
+            fewer[_mean(box)] += sum(box.values())
     return fewer
 
 
 def _mean(box: Box) -> Colour:
     """The middle of colours; the one that nearly all of the dots have, if there is one."""
-    total = sum(count for _, count in box)
-    colour, most = max(box, key=lambda entry: (entry.dots, entry.colour))
-    if 8 * most > PLAIN * total:
-        return colour
+    total = sum(box.values())
+    most = max(box, key=lambda colour: (box[colour], colour))
+    if 8 * box[most] > PLAIN * total:
+        return most
     red, green, blue = (
-        (2 * sum(colour[part] * count for colour, count in box) + total) // (2 * total)
+        (2 * sum(colour[part] * count for colour, count in box.items()) + total) // (2 * total)
         for part in range(3)
     )
     return red, green, blue
 
 
 def _span(box: Box, part: int) -> BoxSpan:
-    values = [colour[part] for colour, _ in box]
+    values = [colour[part] for colour in box]
     return BoxSpan(WEIGHTS[part] * (max(values) - min(values)) ** 2, part)
 
 
@@ -257,15 +238,15 @@ def _widest(box: Box) -> BoxSpan:
 
 def _cut(box: Box, part: int) -> Iterator[Box]:
     """A box in two, so that about half of the dots stand in each; none is empty."""
-    ordered = sorted(box, key=lambda entry: (entry.colour[part], entry))
-    half = sum(count for _, count in ordered) / 2
+    ordered = sorted(box, key=lambda colour: (colour[part], colour))
+    half = sum(box.values()) / 2
     passed = 0
     at = 0
-    while at < len(ordered) - 1 and (at == 0 or passed + ordered[at].dots / 2 <= half):
-        passed += ordered[at].dots
+    while at < len(ordered) - 1 and (at == 0 or passed + box[ordered[at]] / 2 <= half):
+        passed += box[ordered[at]]
         at += 1
-    yield ordered[:at]
-    yield ordered[at:]
+    for some in (ordered[:at], ordered[at:]):
+        yield {colour: box[colour] for colour in some}
 
 
 def _cut_boxes(whole: Box, most: int) -> list[Box]:
@@ -283,25 +264,24 @@ def _cut_boxes(whole: Box, most: int) -> list[Box]:
 def _cut_of(box: Box, number: int) -> BoxCut:
     """How a box would be cut: the widest, and of the most dots, is cut first."""
     span = _widest(box)
-    return BoxCut(span.width * sum(count for _, count in box), span.part, number)
+    return BoxCut(span.width * sum(box.values()), span.part, number)
 
 
 def _boxes_of(whole: Box, chosen: Sequence[Colour]) -> list[Box]:
     """A box for each chosen colour, of those colours to which it is the nearest."""
-    colours = [entry.colour for entry in whole]
-    arrays = arrays_for(len(colours) * len(chosen))
+    arrays = arrays_for(len(whole) * len(chosen))
     numbers: Iterable[int] = (
-        map(Nearest(chosen), colours) if arrays is None else arrays.nearest(colours, chosen)
+        map(Nearest(chosen), whole) if arrays is None else arrays.nearest(list(whole), chosen)
     )
-    boxes: list[Box] = [[] for _ in chosen]
-    for number, entry in zip(numbers, whole):
-        boxes[number].append(entry)
+    boxes: list[Box] = [{} for _ in chosen]
+    for number, (colour, count) in zip(numbers, whole.items()):
+        boxes[number][colour] = count
     return boxes
 
 
 def _lost(box: Box, middle: Colour) -> int:
     """How far the dots of a box are from the colour that stands for them."""
-    return sum(count * distance(colour, middle) for colour, count in box)
+    return sum(count * distance(colour, middle) for colour, count in box.items())
 
 
 def _refined(whole: Box, chosen: list[Colour]) -> list[Colour]:
@@ -343,7 +323,7 @@ def _exchanged(chosen: Sequence[Colour], boxes: Sequence[Box], lost: Sequence[in
 
 def _losses(chosen: Sequence[Colour], boxes: Sequence[Box]) -> Iterator[BoxLoss]:
     """What two boxes lose more where they become one: each, and that of the nearest colour."""
-    dots = [sum(count for _, count in box) for box in boxes]
+    dots = [sum(box.values()) for box in boxes]
     for number, colour in enumerate(chosen):
         far, other = min(
             (distance(colour, near), at) for at, near in enumerate(chosen) if at != number
