@@ -38,7 +38,7 @@ Row = Sequence[Colour]
 MOST = 63
 # Colours for a dither are tried on bands of so many rows, so many dots in all, and judged by areas
 # of so many dots across and down.
-BAND, TRIED, AREA = 8, 16384, 4
+BAND, TRIED, AREA = 8, 12288, 4
 # For the dither of Floyd and Steinberg colours are moved away from so many that are nearest to
 # them, by this part of how far they are from the middle of these.
 AROUND, AWAY = 4, 4
@@ -473,8 +473,8 @@ WAYS: dict[Fewer, Callable[[Sequence[Row], Sequence[Colour]], Iterable[bytes]]] 
 def _chosen(
     rows: Sequence[Row], dots: Sequence[Row], counts: Counter[Colour], most: int, fewer: Fewer
 ) -> list[Colour]:
-    """So many colours for an image: of those in the middle and the outer ones those that a dither
-    does better with, which is given these dots.
+    """So many colours for an image: of those in the middle, these spread and the outer ones those
+    that a dither does best with, which is given these dots.
 
     A dither makes each colour that lies between those it has, and none that lies outside of them;
     but the farther these are apart, the coarser is its grain.
@@ -485,9 +485,9 @@ def _chosen(
     step = -(-len(rows) * len(rows[0]) // TRIED)
     bands = [y for y in range(len(rows)) if y // BAND % step == 0]
     part, dithered = ([some[y] for y in bands] for some in (rows, dots))
-    inner = spread_colours(middle) if fewer is Fewer.FLOYD else middle
+    spread = [spread_colours(middle)] if fewer is Fewer.FLOYD else []
     return min(
-        (inner, outer_colours(counts, most)),
+        (middle, *spread, outer_colours(counts, most)),
         key=lambda colours: _seen(part, colours, WAYS[fewer](dithered, colours)),
     )
 
