@@ -489,6 +489,18 @@ class Colours(unittest.TestCase):
             self.assertEqual({BLACK, WHITE} & set(nearest), set())
             self.assertLessEqual({BLACK, WHITE}, set(floyd))
 
+    def test_the_dither_of_floyd_leaves_colours_that_fit_in_the_middle(self) -> None:
+        # Plain areas of fifteen greys, and a little noise beside the last: moved outwards, the
+        # greys would have to be mixed all over.
+        chance = random.Random(9)
+        noise = [[(56 + chance.randrange(5),) * 3 for _ in range(8)] for _ in range(64)]
+        dots = [[(4 * (x // 8),) * 3 for x in range(112)] + row for row in noise]
+        floyd, nearest = (
+            sorted(indexed(dots, 16, way, "i")[0].colours) for way in (Fewer.FLOYD, Fewer.NEAREST)
+        )
+        self.assertEqual(floyd, nearest)
+        self.assertLessEqual({(4 * at,) * 3 for at in range(14)}, set(floyd))
+
     def test_colours_at_the_rim_are_moved_outwards(self) -> None:
         # By a quarter of how far each is from the mean of its four nearest; by a step where that is
         # less, and not at all below half a step. None leaves the DAC's steps.
