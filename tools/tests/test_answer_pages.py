@@ -80,6 +80,8 @@ class PagesOfAnswers(Folder):
         damaged = self.lines().replace(self.machine.pages[1].split("\n")[3], "babab babab badab")
         for text, told in (
             (self.lines((1, 1), (1, 4), (3, 2)), f"page 1 rows 1, 4, page 3 row 2; {part}"),
+            # The last page has four rows of answers, and these are all of it.
+            (self.lines((3, 1), (3, 2), (3, 3), (3, 4)), f"page 3; {part}"),
             (self.lines((0, 1)), f"the first row of the page of checks; {part}"),
             ("noise\n", f"the first row of the page of checks; {part}"),
             (damaged, f"page 1 row 3; damaged are rows.txt:8; {part}"),
