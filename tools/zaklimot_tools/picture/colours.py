@@ -38,7 +38,7 @@ Row = Sequence[Colour]
 MOST = 63
 # Colours for a dither are tried on bands of so many rows, so many dots in all, and judged by areas
 # of so many dots across and down.
-BAND, TRIED, AREA = 8, 12288, 4
+BAND, TRIED, AREA = 4, 12288, 4
 # For the dither of Floyd and Steinberg colours are moved away from so many that are nearest to
 # them, by this part of how far they are from the middle of these.
 AROUND, AWAY = 4, 4
