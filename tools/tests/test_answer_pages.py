@@ -69,6 +69,12 @@ class PagesOfAnswers(Folder):
         self.assertEqual(self.read("--pages", str(self.folder / "pages")), (0, b"", ""))
         self.assertTrue(Path(path).exists())
 
+    def test_the_report_is_named_after_the_pages(self) -> None:
+        path = self.write("rows.txt", self.lines())
+        words = ("read", self.image, "--pages", path, self.folder / "reports")
+        self.assertEqual(run(*words), (0, b"", ""))
+        self.assertEqual(len(self.reports()), 2)
+
     def test_no_answers_at_all(self) -> None:
         booted = machine(b"frame\n")
         image = self.write("empty", booted.image)

@@ -38,7 +38,18 @@ class _Version(argparse.Action):
 
 
 class _Parser(argparse.ArgumentParser):
-    """A parser that loses no trouble with what it prints, as a disk that is full."""
+    """A parser that loses no trouble with what it prints, as a disk that is full; and that takes a
+    word which may be lacking after an option, too."""
+
+    def _match_arguments_partial(
+        self, actions: Sequence[argparse.Action], arg_strings_pattern: str
+    ) -> list[int]:
+        # Before Python 3.13 such a word counts as lacking where an option comes before it.
+        counts = super()._match_arguments_partial(actions, arg_strings_pattern)
+        if arg_strings_pattern[sum(counts) :].startswith("O"):
+            while counts and counts[-1] == 0:
+                counts.pop()
+        return counts
 
     def _print_message(self, message: str, file: Optional[IO[str]] = None) -> None:
         if message and (file or sys.stderr) is sys.stderr:
