@@ -67,6 +67,40 @@ def png(
     return b"\x89PNG\r\n\x1a\n" + b"".join(parts) + chunk(b"IEND", b"")
 
 
+# The speed of a frame: its dots, and the dot clock in hertz.
+TEXT = (404_100, 28_322_000)
+WIDE = (359_200, 25_175_000)
+NARROW = (179_600, 12_587_500)
+# Steps, and the speed of the frames after them.
+SPEEDS: list[tuple[str, Optional[tuple[int, int]]]] = [
+    ("", None),
+    ("out 3C2 67", None),
+    ("int ax=83", TEXT),
+    ("int ax=13", WIDE),
+    ("int ax=13;int ax=d", NARROW),
+    ("out 3C2 63;outw 3C4 0101;outw 3D4 5F00;outw 3D4 BF06;outw 3D4 1F07", WIDE),
+    (
+        (
+            "out 3C2 67;out 3D4 0;out 3D5 5F;outw 3D4 BF06;outw 3D4 1F07;outw 3D4"
+            " 8E11;outw 3D4 0000"
+        ),
+        TEXT,
+    ),
+    ("int ax=3;out 3C2 6F", None),
+    # A mode set protects registers 0 to 7; without that, each leaves the others'
+    # parts of the shape as they are.
+    ("int ax=3;outw 3D4 0F07;outw 3D4 0000", TEXT),
+    ("int ax=d;outw 3D4 0E11;outw 3D4 0F07", NARROW),
+    ("int ax=12;outw 3D4 0C11;outw 3D4 0106", (515 * 800, 25_175_000)),
+    ("int ax=3;outw 3C4 0101", (100 * 8 * 449, 28_322_000)),
+    # Registers 0 to 7 alone are protected.
+    (
+        ("out 3C2 67;outw 3D4 BF06;outw 3D4 1F07;outw 3D4 8E11;outw 3D4 0E11;outw" " 3D4 0000"),
+        (20_205, 28_322_000),
+    ),
+]
+
+
 class Filters(unittest.TestCase):
     def paeth(self, left: int, above: int, corner: int) -> int:
         """What filter 4 takes off a sample with these neighbours, by the image that is read."""
@@ -190,8 +224,6 @@ class Animations(Folder):
         self.assertEqual(run("pictures", path, "--apng", moving, "--step", "2")[0], 0)
 
     def test_times_by_registers(self) -> None:
-        text, wide, narrow = (404_100, 28_322_000), (359_200, 25_175_000), (179_600, 12_587_500)
-
         def speed(steps: str) -> Optional[tuple[int, float]]:
             registers = Registers()
             for step in parse_text(steps.replace(";", "\n")).steps():
@@ -200,40 +232,7 @@ class Animations(Folder):
             self.assertAlmostEqual(registers.frame(), found[0] / found[1] if found else USUAL)
             return found
 
-        hold(
-            self,
-            speed,
-            [
-                ("", None),
-                ("out 3C2 67", None),
-                ("int ax=83", text),
-                ("int ax=13", wide),
-                ("int ax=13;int ax=d", narrow),
-                ("out 3C2 63;outw 3C4 0101;outw 3D4 5F00;outw 3D4 BF06;outw 3D4 1F07", wide),
-                (
-                    (
-                        "out 3C2 67;out 3D4 0;out 3D5 5F;outw 3D4 BF06;outw 3D4 1F07;outw 3D4"
-                        " 8E11;outw 3D4 0000"
-                    ),
-                    text,
-                ),
-                ("int ax=3;out 3C2 6F", None),
-                # A mode set protects registers 0 to 7; without that, each leaves the others'
-                # parts of the shape as they are.
-                ("int ax=3;outw 3D4 0F07;outw 3D4 0000", text),
-                ("int ax=d;outw 3D4 0E11;outw 3D4 0F07", narrow),
-                ("int ax=12;outw 3D4 0C11;outw 3D4 0106", (515 * 800, 25_175_000)),
-                ("int ax=3;outw 3C4 0101", (100 * 8 * 449, 28_322_000)),
-                # Registers 0 to 7 alone are protected.
-                (
-                    (
-                        "out 3C2 67;outw 3D4 BF06;outw 3D4 1F07;outw 3D4 8E11;outw 3D4 0E11;outw"
-                        " 3D4 0000"
-                    ),
-                    (20_205, 28_322_000),
-                ),
-            ],
-        )
+        hold(self, speed, SPEEDS)
 
 
 def shown(
