@@ -17,7 +17,8 @@ from pathlib import Path
 from typing import Any, Iterator, Mapping, Optional
 
 HERE = Path(__file__).resolve().parent
-TOP, PACKAGE = HERE.parent, "zaklimot_tools"
+TOP = HERE.parent
+PACKAGE = "zaklimot_tools"
 # The part of the package that only developers of the project need.
 LEFT_OUT = "dev"
 # What the tools read of the project.

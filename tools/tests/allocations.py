@@ -48,7 +48,8 @@ CALLS = (
     "print",
     "run",
 )
-RIGHT, FAULT = ": as in its example", "vga: F10 OutOfMemory\n"
+RIGHT = ": as in its example"
+FAULT = "vga: F10 OutOfMemory\n"
 # What stands before the output of a case, and what behind what it said.
 SECTION = re.compile(rb"^== (\S+)\n", re.M)
 ENDED = re.compile(r"case=(\S+) run=(\S+)(?: status=(\d+))? .*proved=no")

@@ -28,7 +28,8 @@ MOST_BYTES = 400
 # The version, which the last line of a help tells, and what the portable program adds to it.
 VERSION = re.compile(rb"^vga \d+\.\d+(, portable: tested, not proved)?$", re.M)
 MODE_13, MODE_12 = (b"\x09%c\0" % mode + bytes(8) for mode in (0x13, 0x12))
-OUT, FRAME = b"\x01\xc2\x03\x63", b"\x0b"
+OUT = b"\x01\xc2\x03\x63"
+FRAME = b"\x0b"
 # Files, by their names. The last few have long reports, which are written slice by slice.
 FILES = {
     "empty": b"",

@@ -10,7 +10,9 @@ from .tools import Folder, ended, hold
 
 
 # The words that start each shell, without a setting of the user.
-IN_BASH, IN_ZSH, IN_FISH = ("bash", "--norc", "--noprofile"), ("zsh", "-f"), ("fish",)
+IN_BASH = ("bash", "--norc", "--noprofile")
+IN_ZSH = ("zsh", "-f")
+IN_FISH = ("fish",)
 WITH_ZSH = unittest.skipUnless(shutil.which("zsh"), "zsh isn't installed")
 WITH_FISH = unittest.skipUnless(shutil.which("fish"), "fish isn't installed")
 

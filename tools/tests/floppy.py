@@ -23,9 +23,13 @@ from zaklimot_tools.floppy.table import (
 )
 
 
-SECTOR, TABLE, MARK, ANSWERS = 512, 7 * 512, 1023 * 512, 1024 * 512
+SECTOR = 512
+TABLE = 7 * 512
+MARK = 1023 * 512
+ANSWERS = 1024 * 512
 # The rows of a page: each of so many answers at most. The words have these letters, in turn.
-ROW, PAGE = 22, 21 * 22
+ROW = 22
+PAGE = 21 * 22
 LETTERS = ["bdfghjklmnprstvz", "aiou"] * 2 + ["bdfghjklmnprstvz"]
 
 

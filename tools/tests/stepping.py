@@ -23,7 +23,8 @@ from .tools import EXAMPLES, Folder, run_tool
 
 STEPS_EXAMPLES = EXAMPLES / "steps"
 # The seed of these tests, and how many elements of each kind they take.
-SEED, COUNT = 1, 50
+SEED = 1
+COUNT = 50
 NO_COMPILER = "there is no C compiler to make the library with"
 GOOD: Element = {
     "name": "a write",

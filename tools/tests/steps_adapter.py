@@ -32,19 +32,28 @@ from zaklimot_tools.steps.reaching import steps_to  # noqa: E402
 from zaklimot_tools.steps.reading import step_of  # noqa: E402
 
 # Where parts of a saved state begin: docs/STATE.md.
-CRTC, ATTR, DAC, HOST = 41, 78, 101, 874
-FRAME, FLIP_FLOP, DAC_INDEX, LATCHES, SEQ, GFX, PLANES = (
-    CRTC + 26,
-    ATTR + 22,
-    DAC + 768,
-    HOST,
-    HOST + 4,
-    HOST + 9,
-    HOST + 20,
-)
-PLANE_BYTES, OVERFLOW, PROTECTING, PROTECT, COMPARE_8 = 1 << 16, 7, 0x11, 0x80, 0x10
-MODE_CONTROL, PANNING = 0x10, 0x13
-PLANE_ENABLE, MOST_SCAN, COMPARE_9, LINE_COMPARE = 0x12, 0x09, 0x40, 0x18
+CRTC = 41
+ATTR = 78
+DAC = 101
+HOST = 874
+FRAME = CRTC + 26
+FLIP_FLOP = ATTR + 22
+DAC_INDEX = DAC + 768
+LATCHES = HOST
+SEQ = HOST + 4
+GFX = HOST + 9
+PLANES = HOST + 20
+PLANE_BYTES = 1 << 16
+OVERFLOW = 7
+PROTECTING = 0x11
+PROTECT = 0x80
+COMPARE_8 = 0x10
+MODE_CONTROL = 0x10
+PANNING = 0x13
+PLANE_ENABLE = 0x12
+MOST_SCAN = 0x09
+COMPARE_9 = 0x40
+LINE_COMPARE = 0x18
 # The state before a step, and the place of the first byte of a write, if that is all in the window.
 State = bytearray
 # Bytes of the state, by their places.

@@ -30,8 +30,11 @@ QEMU = MACHINES["qemu"]
 # Cases whose answers take two pages and a part of a third, which ends within a word.
 CASES = ("--only", "host/", "--only", "modes/")
 # The text of a screen, and the BIOS data's flags of the keyboard, whose bits are its lights.
-SCREEN, ROWS, COLUMNS = 0xB8000, 25, 80
-LOCKS, LIGHTS = 0x417, 0x70
+SCREEN = 0xB8000
+ROWS = 25
+COLUMNS = 80
+LOCKS = 0x417
+LIGHTS = 0x70
 END = [
     "vga-floppy: done, but this disk does not keep the answers.",
     "They went to the first serial port, too.",

@@ -370,10 +370,8 @@ SUITES: list[tuple[tuple[tuple[str, ...], ...], str, list[str]]] = [
     ),
 ]
 # Lists of cases with their files, the words of `scripts`, and what is written: files, or a reason.
-DUMPS, EDGES = (
-    "show regs\nshow beam\nshow latches\nshow bda\n",
-    "; Comment\n\nout 3C2 01 ; more\n\t\r\n  frame\nframe",
-)
+DUMPS = "show regs\nshow beam\nshow latches\nshow bda\n"
+EDGES = "; Comment\n\nout 3C2 01 ; more\n\t\r\n  frame\nframe"
 BLOCK = "version 2 ; a block\nrepeat 2\nget A0000\nend\n"
 BIG = "\0" * 16_777_217
 LISTED = "{folder}/list:2: "

@@ -39,7 +39,8 @@ from zaklimot_tools.report.places import SUITE
 from .tools import TOP, hold, stream
 
 
-DOCS, CRATES = TOP / "docs", TOP / "crates"
+DOCS = TOP / "docs"
+CRATES = TOP / "crates"
 
 
 def page(name: str) -> str:

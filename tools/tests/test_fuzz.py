@@ -85,7 +85,8 @@ WRONGS = {
 LIMITS = Limits(seconds=60, output=1 << 16, memory=1 << 28)
 # Those of a program that doesn't end, whether it has begun its work or not.
 SHORT = LIMITS._replace(seconds=0.2)
-SCRIPT, TEXT = Feed(False, b"VGAS\x01\x03\xda\x03", "script"), Feed(True, b"in 3DA\n", "text")
+SCRIPT = Feed(False, b"VGAS\x01\x03\xda\x03", "script")
+TEXT = Feed(True, b"in 3DA\n", "text")
 
 
 class Fuzzing(Folder):

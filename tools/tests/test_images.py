@@ -244,7 +244,9 @@ def shown(
 
 
 # Pictures, how they are written, and the PNG's width, height and rows.
-DRAWN_FULL, DRAWN_RED, DRAWN_DARK = b"\xff\xff\xff", b"\xff\0\0", b"\x55\0\0"
+DRAWN_FULL = b"\xff\xff\xff"
+DRAWN_RED = b"\xff\0\0"
+DRAWN_DARK = b"\x55\0\0"
 DRAWN_FOUR, DRAWN_WIDE, DRAWN_HIGH = (
     Picture.of_dots(*given)
     for given in (

@@ -67,7 +67,8 @@ from .tools import Folder, call, ended, hold, hold_undone, main_of, patched, ref
 
 
 TEXT = HEADER.read_text("ascii")
-PAGE, RELEASES = TOP / "docs" / "LIBRARY.md", TOP / "docs" / "RELEASES.md"
+PAGE = TOP / "docs" / "LIBRARY.md"
+RELEASES = TOP / "docs" / "RELEASES.md"
 STATUS = re.compile(r"^ +(ZAK_\w+) = (\d+)", re.M)
 STRUCT = re.compile(r"^typedef struct (zak_\w+) \{", re.M)
 REFUSAL = re.compile(r"^\| `E(\d+) \w+` \|", re.M)

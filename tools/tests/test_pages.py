@@ -66,7 +66,8 @@ MAKING = re.compile(
     re.M,
 )
 # The tutorial's pictures stay small.
-MOST_BYTES, MOST_MOVING_BYTES = 40_000, 100_000
+MOST_BYTES = 40_000
+MOST_MOVING_BYTES = 100_000
 # A number of wrong bodies in a page's words.
 COUNTED = re.compile(r"([\d,]+) wrong bodies|[Ww]rong bodies, ([\d,]+) of them")
 # A wrong body: a file of its crate, and in it texts that stand there once, each with what it

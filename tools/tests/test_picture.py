@@ -46,7 +46,10 @@ import test_card  # noqa: E402
 FONT = FONTS.read_bytes()
 # The dots of an image, six bits a component, row by row.
 Dots = Sequence[Sequence[Colour]]
-BLACK, RED, BLUE, WHITE = (0, 0, 0), (63, 0, 0), (0, 0, 63), (63, 63, 63)
+BLACK = (0, 0, 0)
+RED = (63, 0, 0)
+BLUE = (0, 0, 63)
+WHITE = (63, 63, 63)
 MANY = [[(x // 20 * 4, y // 20 * 5, (x + y) // 64) for x in range(320)] for y in range(200)]
 
 
@@ -496,7 +499,7 @@ class Colours(unittest.TestCase):
         noise = [[(56 + chance.randrange(5),) * 3 for _ in range(8)] for _ in range(64)]
         dots = [[(4 * (x // 8),) * 3 for x in range(112)] + row for row in noise]
         floyd, nearest = (
-            sorted(indexed(dots, 16, way, "i")[0].colours) for way in (Fewer.FLOYD, Fewer.NEAREST)
+            sorted(indexed(dots, 16, way, "i").colours) for way in (Fewer.FLOYD, Fewer.NEAREST)
         )
         self.assertEqual(floyd, nearest)
         self.assertLessEqual({(4 * at,) * 3 for at in range(14)}, set(floyd))

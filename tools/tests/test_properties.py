@@ -32,7 +32,8 @@ from .stepping import GOOD
 from .tools import EXAMPLES, stream
 
 # So many texts for each property, and so long may a reason be.
-TEXTS, MOST_REASON = 150, 400
+TEXTS = 150
+MOST_REASON = 400
 tried = settings(max_examples=TEXTS, deadline=None, derandomize=True, database=None)
 # Words of the grammar, words that look like them, and any others.
 KNOWN = (

@@ -11,7 +11,9 @@ from zaklimot_tools.trace.fontfiles import FONT_PLANE, font_of, usual_map
 from zaklimot_tools.trace.state import State
 
 # How many registers the CRT controller, the sequencer and the graphics controller have.
-CRTC, SEQ, GFX = 25, 5, 9
+CRTC = 25
+SEQ = 5
+GFX = 9
 
 
 def filled(count: int, named: Mapping[int, int], other: int = 0) -> list[int]:

@@ -154,25 +154,19 @@ HELD_SPLIT = b"".join(
 HELD_VBE = qemu("write 1ce 4 2", "vbe") + qemu("write 1cf 41 2", "vbe")
 HELD_CHAINED = qemu("write 3c4 f02 2") + qemu("write 3c4 e04 2")
 HELD_MEMORY = qemu("write a0000 1 1", "vga-chain4")
-HELD_ROWS, HELD_WHOLE = (
-    qemu("write 3d4 209 2") + qemu("write 3c0 20 1"),
-    RED * 3 + WHITE * 3 + RED * 3,
-)
-HELD_BLACK, HELD_SMALL, HELD_FOUR = (
-    ppm(3, 2, BLACK * 6),
-    ppm(5, 1, RED * 5),
-    ppm(3, 4, HELD_WHOLE + BLACK * 3),
-)
+HELD_ROWS = qemu("write 3d4 209 2") + qemu("write 3c0 20 1")
+HELD_WHOLE = RED * 3 + WHITE * 3 + RED * 3
+HELD_BLACK = ppm(3, 2, BLACK * 6)
+HELD_SMALL = ppm(5, 1, RED * 5)
+HELD_FOUR = ppm(3, 4, HELD_WHOLE + BLACK * 3)
 HELD_KNOWN_OF_QEMU = "  {} what is known of qemu: {}; docs/EMULATORS.md tells of it".format
 HELD_USUAL, HELD_LINE = (
     HELD_KNOWN_OF_QEMU("may be", f"{front}underline") for front in ("palette address source, ", "")
 )
 HELD_NONE = "  nothing that is known of qemu shows in this state"
 HELD_LAST = HELD_KNOWN_OF_QEMU("is", "last row of text that isn't whole")
-HELD_ALL_DOTS, HELD_LACKS = (
-    "6 of 6 dots differ, in columns 0 to 2 and rows 0 to 1",
-    "it lacks the last 1 of 4 lines; ",
-)
+HELD_ALL_DOTS = "6 of 6 dots differ, in columns 0 to 2 and rows 0 to 1"
+HELD_LACKS = "it lacks the last 1 of 4 lines; "
 HELD_SIZE = "another size: they have {} dots, and neither is the other with dots repeated".format
 HELD_ROWS_OF_SCREENS: tuple[tuple[Any, ...], ...] = (
     (
@@ -707,7 +701,8 @@ def names(state: State, picture: Picture, image: Picture) -> dict[str, list[str]
 
 class RealTime(Folder):
     # Dots of a frame, and its microseconds.
-    DOTS, FRAME = 900 * 449, 900 * 449 / 28.322
+    DOTS = 900 * 449
+    FRAME = 900 * 449 / 28.322
 
     def frames(
         self, longest: float, reads: Sequence[float], *writes: float

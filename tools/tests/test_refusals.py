@@ -121,7 +121,8 @@ class Mistakes(unittest.TestCase):
 
 
 # Faults, the file that is named, the reason, and the script and the font file.
-TOLD_LENGTH, TOLD_MOST = "bytes, and 9,728 are right", "16,777,216 bytes are the most"
+TOLD_LENGTH = "bytes, and 9,728 are right"
+TOLD_MOST = "16,777,216 bytes are the most"
 FAULTS_TOLD = (
     *(("F7 BadLine(1)", "s:1", reason, text) for text, reason in TEXTS),
     (

@@ -18,14 +18,17 @@ from .test_images import png
 from .tools import BLACK, TOP, Folder, ppm, report, run_tool
 
 
-PICTURE, OTHER = ppm(9, 1, BLACK * 9), ppm(9, 1, b"\x3f\0\0" * 9)
+PICTURE = ppm(9, 1, BLACK * 9)
+OTHER = ppm(9, 1, b"\x3f\0\0" * 9)
 # A floppy's image with what a run has left.
 IMAGE = machine(b"frame\n").image
 # What stands in the place of a program: it answers each script with the picture of the report `r`.
 PROGRAM = '#!/bin/sh\n[ "$1" = go ] && exec cat "${0%/*}/r"\nexit 0\n'
 # A program that writes so many pictures of three megabytes, and the memory that their run may take;
 # and that of all else.
-PICTURES, ROOM, MEMORY = 100, 1 << 27, 1 << 28
+PICTURES = 100
+ROOM = 1 << 27
+MEMORY = 1 << 28
 MANY = f"""import sys
 for number in range(1, {PICTURES + 1} if sys.argv[1] == "go" else 1):
     sys.stdout.buffer.write(b"%d picture 3000016\\nP6\\n1000 1000\\n63\\n" % number)

@@ -52,7 +52,8 @@ REGISTERS = {"seq": [3, 1, 15, 0, 6], "gfx": [0, 0, 0, 0, 0, 0, 5, 15, 255], "la
 # The loaders that it shows, by the languages.
 LOADERS = {"python": "loader.py", "c": "loader.c", "cpp": "loader.cpp", "rust": "loader.rs"}
 # The examples have another seed, and a release yet another.
-EXAMPLE_SEED, EXAMPLE_COUNT = 2, 20
+EXAMPLE_SEED = 2
+EXAMPLE_COUNT = 20
 
 
 class Making(Made):

@@ -89,10 +89,8 @@ open(os.environ['CHILD'], 'w').write(f'{child.pid} {os.getpid()}\\n')
 time.sleep(600)
 """
 # What it says of a wrong body, as a line after `noting.sh`; and of one that a contract refuses.
-SAYING, REFUSED = (
-    "echo 'rt: must-fail vga_host/{}.edit: {}'\n",
-    "refused, as it must be: src/host.rt:1:1: error",
-)
+SAYING = "echo 'rt: must-fail vga_host/{}.edit: {}'\n"
+REFUSED = "refused, as it must be: src/host.rt:1:1: error"
 # What stands in the place of `vga`, for the fuzzer.
 SLEEPING = """import os, time
 open(os.environ['CHILD'], 'w').write(f'{os.getpid()}\\n')

@@ -99,10 +99,8 @@ KEPT_DATA = (
     b" frame\n12+4 r p 3DA 1 1\n13+6 r p 3DA 1 1\n14+20000000 int 1301 7 2 0 4142\n15+2"
     b" frame\n"
 )
-KEPT_CALL, KEPT_OTHER = (
-    "int ax=0003 bx=0000 cx=0000 dx=0000",
-    "int ax=1301 bx=0007 cx=0002 dx=0000 block 4142",
-)
+KEPT_CALL = "int ax=0003 bx=0000 cx=0000 dx=0000"
+KEPT_OTHER = "int ax=1301 bx=0007 cx=0002 dx=0000 block 4142"
 # The last dot of a frame is its own.
 KEPT_TIMED = [
     "advance 5",

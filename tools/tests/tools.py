@@ -33,7 +33,9 @@ from zaklimot_tools.script.words import FONTS
 TOOLS = Path(__file__).resolve().parents[1]
 TOP = TOOLS.parent
 EXAMPLES = TOP / "examples"
-RED, WHITE, BLACK = b"\x3f\x00\x00", b"\x3f\x3f\x3f", b"\x00\x00\x00"
+RED = b"\x3f\x00\x00"
+WHITE = b"\x3f\x3f\x3f"
+BLACK = b"\x00\x00\x00"
 # How a tool's script names the module that has its `main`.
 MAIN = re.compile(r'\bstart\("([\w.]+)"\)')
 # The tools want nothing but Python's own library, and start faster where nothing else is looked

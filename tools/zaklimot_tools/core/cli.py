@@ -17,7 +17,9 @@ from .trouble import TROUBLE, Trouble
 from .version import version
 
 # What a shell says of programs that a closed pipe, the user, or the system has ended.
-PIPE_CLOSED, INTERRUPTED, SIGNALLED = 141, 130, 128
+PIPE_CLOSED = 141
+INTERRUPTED = 130
+SIGNALLED = 128
 NO_MEMORY = "there is not enough memory for this"
 # How the exit status reads of a tool that tells differences, and of one that does a job or doesn't.
 DIFFERS = "Exit status: 0 done, and nothing differs; 1 something differs; 2 the work can't be done."

@@ -40,14 +40,17 @@ from .words import MEBIBYTE
 IS_POSIX = os.name == "posix"
 IS_LINUX = sys.platform.startswith("linux")
 # Seconds between two looks whether a command has ended: the first of them, and the longest.
-FIRST_PAUSE, LONGEST_PAUSE = 0.0005, 0.05
+FIRST_PAUSE = 0.0005
+LONGEST_PAUSE = 0.05
 # Seconds for what stands in a pipe once all that could write into it has ended.
 DRAINING = 5
 # Seconds for a program to end what it has started in groups of its own, once it is asked to.
 ENDING = 5
 # So much of what a program says at last is told, in lines and as one line; and so much of its
 # output is kept at most.
-MOST_SAID, MOST_IN_LINE, MOST_KEPT = 2000, 600, 1 << 28
+MOST_SAID = 2000
+MOST_IN_LINE = 600
+MOST_KEPT = 1 << 28
 # So much of what a command said at last is kept whose output is read as it comes.
 MOST_STREAMED = 1 << 16
 TOO_LONG = "the command took too long"

@@ -5,7 +5,8 @@ import sys
 import time
 
 # Seconds before the line is first shown, and between two showings: short work shows nothing.
-DELAY, PAUSE = 0.5, 0.1
+DELAY = 0.5
+PAUSE = 0.1
 
 
 class Progress:

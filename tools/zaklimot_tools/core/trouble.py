@@ -4,7 +4,9 @@ from typing import Optional
 
 # The exit statuses of a tool: nothing differs, something differs or is wrong, and the work can't be
 # done.
-AGREED, DIFFERED, TROUBLE = 0, 1, 2
+AGREED = 0
+DIFFERED = 1
+TROUBLE = 2
 
 
 class Trouble(Exception):

@@ -9,23 +9,33 @@ from .raster import character_dots, frame_lines, line_characters
 from .wordings import WORDINGS
 
 
-ATTRIBUTE, MISC, SEQUENCER, GRAPHICS = 0x3C0, 0x3C2, 0x3C4, 0x3CE
+ATTRIBUTE = 0x3C0
+MISC = 0x3C2
+SEQUENCER = 0x3C4
+GRAPHICS = 0x3CE
 # Where what was written to two of these is read.
-ATTRIBUTE_READ, MISC_READ = 0x3C1, 0x3CC
-COLOUR, MONOCHROME = 0x3D4, 0x3B4
+ATTRIBUTE_READ = 0x3C1
+MISC_READ = 0x3CC
+COLOUR = 0x3D4
+MONOCHROME = 0x3B4
 # The DAC takes any byte. What it keeps is no part of this model.
 DAC_PORTS = MASK, DAC_READ, DAC_WRITE, DAC_DATA = (0x3C6, 0x3C7, 0x3C8, 0x3C9)
 # From the port of the CRT controller's index to that of input status 1.
 STATUS = 6
 # Bits of miscellaneous output.
-IS_COLOUR, ENABLE_MEMORY, MISC_KEPT = 0x01, 0x02, 0xEF
+IS_COLOUR = 0x01
+ENABLE_MEMORY = 0x02
+MISC_KEPT = 0xEF
 MAP = 0x06
 # The index of the attribute controller: the palette address source; and how many registers are the
 # palette.
-SOURCE, PALETTE = 0x20, 0x10
+SOURCE = 0x20
+PALETTE = 0x10
 # The end of vertical retrace, whose bit protects registers 0 to 7; and what is never protected of
 # overflow.
-RETRACE_END, PROTECT, COMPARE_8 = 0x11, 0x80, 0x10
+RETRACE_END = 0x11
+PROTECT = 0x80
+COMPARE_8 = 0x10
 
 
 class MemoryWindow(NamedTuple):

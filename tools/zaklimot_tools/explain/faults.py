@@ -33,7 +33,8 @@ UNKNOWN = said("lines", "unknown")
 # Files of other kinds, by what they begin with; bytes that no text has; and how much of a file's
 # front is looked at.
 FOREIGN = {bytes.fromhex(begin): what for begin, what in WORDINGS["foreign"]}
-CONTROLS, LOOKED_AT = set(range(32)) - set(b"\t\n\v\f\r"), 200
+CONTROLS = set(range(32)) - set(b"\t\n\v\f\r")
+LOOKED_AT = 200
 SHOWS = FORMS["show regs"].opcode
 # The bytes of a font whose characters have 16, 14 or 8 rows.
 FONTS_OF_ONE_HEIGHT = (4096, 3584, 2048)

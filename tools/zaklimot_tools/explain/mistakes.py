@@ -45,7 +45,8 @@ COMMENT_WORDS = ("rem", "note")
 LOOKALIKES = str.maketrans("OoIl", "0011")
 PUNCTUATION = ",;:."
 # A larger number is only told to be too large; and one of more digits is told in no other base.
-MOST_TOLD, MOST_DIGITS = 10**20, 1000
+MOST_TOLD = 10**20
+MOST_DIGITS = 1000
 # The steps whose name is one word, with numbers alone behind it; and the first words of all lines.
 SHAPES = {
     name: form.fields for name, form in FORMS.items() if " " not in name and not form.has_block

@@ -8,16 +8,31 @@ docs/RASTER.md and docs/REGISTERS.md have the rules. Registers come as sequences
 from typing import NamedTuple, Sequence
 
 # Registers of the CRT controller.
-TOTAL, SHOWN_CHARACTERS, LINES, OVERFLOW = 0x00, 0x01, 0x06, 0x07
-PRESET_SCAN, MOST_SCAN, START_HIGH, START_LOW = 0x08, 0x09, 0x0C, 0x0D
-RETRACE_START, LAST_LINE, OFFSET, UNDERLINE = 0x10, 0x12, 0x13, 0x14
-MODE_CONTROL, LINE_COMPARE = 0x17, 0x18
+TOTAL = 0x00
+SHOWN_CHARACTERS = 0x01
+LINES = 0x06
+OVERFLOW = 0x07
+PRESET_SCAN = 0x08
+MOST_SCAN = 0x09
+START_HIGH = 0x0C
+START_LOW = 0x0D
+RETRACE_START = 0x10
+LAST_LINE = 0x12
+OFFSET = 0x13
+UNDERLINE = 0x14
+MODE_CONTROL = 0x17
+LINE_COMPARE = 0x18
 # Bits of maximum scan line, underline location and mode control; and the bits of a scan line in the
 # registers that name one.
-DOUBLE_SCAN, DOUBLE_WORD, WRAPS_AT_15, BYTE_MODE = 0x80, 0x40, 0x20, 0x40
+DOUBLE_SCAN = 0x80
+DOUBLE_WORD = 0x40
+WRAPS_AT_15 = 0x20
+BYTE_MODE = 0x40
 SCAN = 0x1F
 # Registers of the sequencer and of the graphics controller.
-CLOCKING, MAP_SELECT, MISCELLANEOUS = 1, 3, 6
+CLOCKING = 1
+MAP_SELECT = 3
+MISCELLANEOUS = 6
 # Counters, and offsets in a plane, have 16 bits.
 COUNTER = 0xFFFF
 # The bytes of plane 2 from a character map to the next of the first four; the others lie half as

@@ -45,7 +45,8 @@ NO_FILES = 0xDA
 FORM = slice(11, 62)
 # So many sectors end where services may write.
 MOST_LOADED = (0x70000 - 0x8000) // SECTOR
-MARK_AT, ANSWERS_AT = 1023 * SECTOR, 1024 * SECTOR
+MARK_AT = 1023 * SECTOR
+ANSWERS_AT = 1024 * SECTOR
 # The mark: two names, the length and the sum of the answers, and the check of the table that they
 # belong to.
 MARK = struct.Struct("<4s4sHHI")
@@ -54,7 +55,9 @@ MOST_ANSWERS = 0xFFFF
 # The first line of a record, its other lines, and their letters.
 BEGIN = b"VGA-FLOPPY 1"
 LINE = re.compile(rb"([TAPE]) ([0-9A-F]{6}) (?:((?:[0-9A-F]{2}){1,16}) )?([0-9A-F]{2})")
-TABLE, ANSWERS, END = b"T", b"A", b"E"
+TABLE = b"T"
+ANSWERS = b"A"
+END = b"E"
 # The registers in which a service answers, by AH, and those of function 10 by AX; of services that
 # are not here, all.
 AX, BX, CX, DX = range(4)

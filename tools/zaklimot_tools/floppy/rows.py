@@ -22,7 +22,8 @@ from zaklimot_tools.images import others
 from .table import Table
 
 
-CONSONANTS, VOWELS = "bdfghjklmnprstvz", "aiou"
+CONSONANTS = "bdfghjklmnprstvz"
+VOWELS = "aiou"
 
 
 class WordLetter(NamedTuple):
@@ -47,14 +48,17 @@ WORD_LENGTH = len(LETTERS)
 WORDS = re.compile(f"(?:{WORD})+")
 # A row has a number, a word of bytes, and its check.
 LEAST_WORDS = 3
-ROW_BYTES, PAGE_ROWS = 22, 21
+ROW_BYTES = 22
+PAGE_ROWS = 21
 PAGE_BYTES = PAGE_ROWS * ROW_BYTES
 # Rows of answers have smaller numbers; these have the checks of pages from a number on, and this
 # one tells of all answers.
-ROW_OF_CHECKS, ROW_OF_ALL = 0x8000, 0xFFFF
+ROW_OF_CHECKS = 0x8000
+ROW_OF_ALL = 0xFFFF
 ALL = struct.Struct("<HHI")
 # A photograph has so many bytes at most, and is read within so many seconds.
-MOST_BYTES, SECONDS = 1 << 26, 300
+MOST_BYTES = 1 << 26
+SECONDS = 300
 MOST_DOTS = 1 << 26
 # Pictures are made so many dots wide: the words of a row are best read at one of these.
 WIDTHS = (1800, 1400)

@@ -65,7 +65,9 @@ MOST_BLOCK = 0xFFF0
 MOST_NAME = 0xFF
 
 # Where a service looks for its block, or writes its table.
-AT_DX, AT_BP, TABLE_AT_DX = 1, 2, 4
+AT_DX = 1
+AT_BP = 2
+TABLE_AT_DX = 4
 PLACES = {
     0x1002: AT_DX,
     0x1012: AT_DX,
@@ -75,11 +77,16 @@ PLACES = {
     0x1017: TABLE_AT_DX,
 }
 STRING = 0x13
-PALETTE_LENGTH, DAC_ENTRIES = 17, 256
+PALETTE_LENGTH = 17
+DAC_ENTRIES = 256
 
 # What the steps of a report answer, and how many bytes of answers each has: a call more of them
 # where it has a table.
-DONE, SKIPPED, BYTE, WORD, CALL = "ok", "skipped", "byte", "word", "call"
+DONE = "ok"
+SKIPPED = "skipped"
+BYTE = "byte"
+WORD = "word"
+CALL = "call"
 ANSWER_LENGTHS = {DONE: 0, SKIPPED: 0, BYTE: 1, WORD: 2, CALL: 8}
 
 

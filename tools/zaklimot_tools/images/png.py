@@ -18,7 +18,8 @@ SIGNATURE = b"\x89PNG\r\n\x1a\n"
 COMPRESSION = 6
 # The delay of a frame is a fraction of two numbers below this.
 MOST_NUMBER = 0xFFFF
-SHORT, LONG = 50_000, 100
+SHORT = 50_000
+LONG = 100
 # Blocks show a picture as if it had this shape.
 UPPER_HALF = "\u2580"
 MONITOR = 4 / 3

@@ -23,7 +23,8 @@ GLYPHS = 256
 FONTS_AT = {8: 0, 14: 256 * 8, 16: 256 * (8 + 14)}
 # Characters whose ninth dot is the eighth once more.
 LINE_CHARACTERS = range(0xC0, 0xE0)
-BLANK, BLANK_ATTRIBUTE = 0x20, 0x07
+BLANK = 0x20
+BLANK_ATTRIBUTE = 0x07
 # Characters that a string obeys, and does not write.
 CONTROLS = (0x07, 0x08, 0x0A, 0x0D)
 # So many cells at most that need no writing are written all the same, where a string goes on behind

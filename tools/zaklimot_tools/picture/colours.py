@@ -31,17 +31,21 @@ WEIGHTS = (3, 4, 2)
 MANY = 4096
 # How often colours that save little are put elsewhere at most, and how often all are moved each
 # time.
-EXCHANGES, MOVES = 8, 6
+EXCHANGES = 8
+MOVES = 6
 # A colour that more than seven of eight dots of its box have is taken as it is.
 PLAIN = 7
 Row = Sequence[Colour]
 MOST = 63
 # Colours for a dither are tried on bands of so many rows, so many dots in all, and judged by areas
 # of so many dots across and down.
-BAND, TRIED, AREA = 4, 12288, 4
+BAND = 4
+TRIED = 12288
+AREA = 4
 # For the dither of Floyd and Steinberg colours are moved away from so many that are nearest to
 # them, by this part of how far they are from the middle of these.
-AROUND, AWAY = 4, 4
+AROUND = 4
+AWAY = 4
 # This dither reckons in sixteenths of the DAC's steps: what an image of eight bits has between two
 # of them would else be lost.
 FINE = 16

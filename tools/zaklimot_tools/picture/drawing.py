@@ -12,7 +12,10 @@ from .screen import Areas, best_numbers, drawn
 from .steps import Item, Part, runs, service
 
 # Cycles of a mode set: of registers and palette, of the glyphs of text, of memory that is cleared.
-SET_CYCLES, GLYPH_CYCLES, TEXT_CYCLES, GRAPHICS_CYCLES = 896, 4112, 32768, 65536
+SET_CYCLES = 896
+GLYPH_CYCLES = 4112
+TEXT_CYCLES = 32768
+GRAPHICS_CYCLES = 65536
 NO_CURSOR = 0x2000
 
 

@@ -10,7 +10,8 @@ from .asked import Fit
 from .mode import Mode
 
 # The shape of a screen.
-WIDE, HIGH = 4, 3
+WIDE = 4
+HIGH = 3
 
 
 class FittedImage(NamedTuple):

@@ -21,7 +21,8 @@ from zaklimot_tools.explain.faults import wrong_font_bytes
 
 PAGE = TOP / "page" / "zaklimot.html"
 DOCS = TOP / "docs"
-BEGIN, END = '<script type="application/json" id="zaklimot-data">', "</script>"
+BEGIN = '<script type="application/json" id="zaklimot-data">'
+END = "</script>"
 ELEMENT = re.compile(f"{re.escape(BEGIN)}(.*?){re.escape(END)}", re.S)
 # The page as built is far smaller.
 MOST_PAGE = 1 << 24

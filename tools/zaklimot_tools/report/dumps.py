@@ -7,7 +7,8 @@ from typing import Iterable, NamedTuple, Sequence
 # How the lines of `show regs` begin, in their order.
 GROUPS = ("misc", "seq", "crtc", "gfx", "attr", "dac")
 # What comes next of the DAC, and of the attribute controller.
-NEXT_COMPONENT, NEXT_DATA = "rgb", "d"
+NEXT_COMPONENT = "rgb"
+NEXT_DATA = "d"
 # How many cursors a line of BIOS data has, one for each page.
 CURSORS = 8
 

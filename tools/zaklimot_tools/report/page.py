@@ -16,7 +16,8 @@ from .report import Difference
 
 HERE = Path(__file__).resolve().parent
 # So much stands on a page at most.
-MOST_ROWS, MOST_PICTURES = 100_000, 2_000
+MOST_ROWS = 100_000
+MOST_PICTURES = 2_000
 POLICY = "default-src 'none'; img-src data:; style-src 'unsafe-inline'; script-src 'unsafe-inline'"
 SIZES = "".join(f'<option value="{size}">\u00d7{size}</option>' for size in (1, 2, 3, 4))
 

@@ -34,7 +34,10 @@ from .places import LIST
 from .report import Comparison, Report
 
 
-AGREES, SKIPPED, DIFFERS, FAILED = "agrees", "skipped", "differs", "failed"
+AGREES = "agrees"
+SKIPPED = "skipped"
+DIFFERS = "differs"
+FAILED = "failed"
 # The answers from the best to the worst, as they are counted. A rule has the worst answer of its
 # cases.
 COUNTED = {AGREES: "agree", SKIPPED: "skipped", DIFFERS: "differ", FAILED: "failed"}

@@ -37,7 +37,9 @@ MAKING = "making-"
 LOCK = "lock"
 # So many seconds may a compilation take, and a run wait for that of another run; and between two
 # looks.
-MOST_SECONDS, MOST_WAITING, PAUSE = 900, 1000, 0.1
+MOST_SECONDS = 900
+MOST_WAITING = 1000
+PAUSE = 0.1
 PAGE = "page/zaklimot.html runs scripts in a browser without one"
 NO_COMPILER = (
     "there is no C compiler to make the program vga with: install Debian's package gcc or clang,"

@@ -25,7 +25,8 @@ from .portable import has_sources, portable_program
 CRATE = TOP / "crates" / "vga"
 PROGRAM = CRATE / "out" / "vga"
 # The program of an unpacked release, and the command that finds a program as this does.
-RELEASED, LAUNCHER = TOP / "bin" / "vga", TOP / "tools" / "vga"
+RELEASED = TOP / "bin" / "vga"
+LAUNCHER = TOP / "tools" / "vga"
 # No script is printed in more bytes: none of its steps has a line that is seven times as long as
 # its bytes.
 MOST_PRINTED = 7 << 24
@@ -33,7 +34,8 @@ CHUNK = 1 << 16
 # So much of a first line is told that is none of a report.
 MOST_SHOWN = 60
 # A script of a step, and its report: miscellaneous output as it is at power-on.
-ONE_STEP, ITS_REPORT = b"in 3CC\n", b"1 00\n"
+ONE_STEP = b"in 3CC\n"
+ITS_REPORT = b"1 00\n"
 # What a run without proofs may take.
 LIMITS = "60 seconds and 1 MiB of output, which two pictures of text fill"
 NO_SOURCES = (

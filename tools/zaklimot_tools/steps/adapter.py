@@ -17,7 +17,8 @@ _byref = ctypes.byref
 # The statuses of a call whose room is too short, and of one that is done.
 NO_ROOM = 25
 # Room for a saved state, and for the cycles of a call that touches few places.
-STATE_ROOM, CYCLES_ROOM = 1 << 19, 1 << 15
+STATE_ROOM = 1 << 19
+CYCLES_ROOM = 1 << 15
 # What `line` answers: the words of a line as 00RRGGBB, of which six bits count.
 LineDots = list[int]
 

@@ -10,7 +10,8 @@ from zaklimot_tools.report.dumps import GROUPS
 
 # The step whose answer has more lines than the others', and that whose answer has bytes behind its
 # line; and how many lines more.
-REGISTERS_SHOWN, FRAME = Step("show regs"), Step("frame")
+REGISTERS_SHOWN = Step("show regs")
+FRAME = Step("frame")
 MORE = len(GROUPS) - 1
 # What stands in reports beside pictures: what can be printed, and the ends of lines.
 PRINTED = bytes([*range(ord(" "), ord("~") + 1), ord("\n")])

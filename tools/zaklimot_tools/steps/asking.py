@@ -17,7 +17,8 @@ from .reading import MOST_LINE, text_of
 # What an adapter answers that doesn't do an element.
 SKIPPED = "skipped"
 # Seconds between two looks whether an answer is late; so much of what a command said is told.
-PAUSE, MOST_SAID = 0.2, 600
+PAUSE = 0.2
+MOST_SAID = 600
 
 
 class AskedAdapter:

@@ -20,7 +20,8 @@ from .reading import read_elements
 from .rules import RULES, branches_shown
 
 # So many differences of the first element that differs are told, and so many rules.
-MOST_TOLD, MOST_RULES = 8, 3
+MOST_TOLD = 8
+MOST_RULES = 3
 # So many elements that agree are counted with those of each branch: what one or two elements show
 # says little.
 FEW = 4

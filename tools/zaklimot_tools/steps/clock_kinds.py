@@ -24,9 +24,12 @@ from .reaching import steps_to
 from .wishes import ElementKind, Wish
 
 PARTS = ("seq", "crtc", "beam")
-EIGHT_DOTS, HALVED = 0x01, 0x08
+EIGHT_DOTS = 0x01
+HALVED = 0x08
 # Most frames that the clock runs on the way to a state, and in a step.
-FRAMES, MOST_FRAMES, MOST_STEPS = 32, 33, 3
+FRAMES = 32
+MOST_FRAMES = 33
+MOST_STEPS = 3
 
 
 def sequencer(chance: Chance) -> list[int]:

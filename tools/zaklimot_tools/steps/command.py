@@ -37,7 +37,8 @@ __all__ = [
     "write_script",
     "write_scripts",
 ]
-PACKED, PLAIN = ".json.gz", ".json"
+PACKED = ".json.gz"
+PLAIN = ".json"
 MOST_FONTS = 1 << 16
 # So many elements of a file are those of which a share is told.
 SHARE = 10_000

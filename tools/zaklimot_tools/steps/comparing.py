@@ -8,7 +8,9 @@ from .parts import ANSWER, FINAL, INITIAL, LISTS, PLACES, REFUSED, STRUCTS, SUMS
 DOTS = ("colours", "entries")
 # The part of which places that an element doesn't list are 0; and the plane that has glyphs too, if
 # a mode of text is set.
-PLANES, GLYPHS, TEXTS = "planes", 2, (3, 7)
+PLANES = "planes"
+GLYPHS = 2
+TEXTS = (3, 7)
 # So much of a value is told.
 MOST_SHOWN = 60
 

@@ -33,12 +33,22 @@ from .reaching import out, steps_to
 from .wishes import ElementKind, Wish
 
 PARTS = ("seq", "gfx", "crtc", "attr_index", "attr", "dac_mask", "colours", "planes", "beam")
-TEXT, PLANES_16, PACKED_256 = "text", "16 colours", "256 colours"
+TEXT = "text"
+PLANES_16 = "16 colours"
+PACKED_256 = "256 colours"
 # Bits: 256 colours; the screen is off; the palette is shown.
-PACKED, SCREEN_OFF, SHOWN = 0x40, 0x20, 0x20
-MONOCHROME, LINE_GRAPHICS, BLINK, PAN_RESET, SELECT = 0x02, 0x04, 0x08, 0x20, 0x80
-CURSOR_START, CURSOR_END = 0x0A, 0x0B
-GLYPH_ROWS, FRAMES = 32, 32
+PACKED = 0x40
+SCREEN_OFF = 0x20
+SHOWN = 0x20
+MONOCHROME = 0x02
+LINE_GRAPHICS = 0x04
+BLINK = 0x08
+PAN_RESET = 0x20
+SELECT = 0x80
+CURSOR_START = 0x0A
+CURSOR_END = 0x0B
+GLYPH_ROWS = 32
+FRAMES = 32
 # The step. It goes to the end of the line, and has no numbers.
 TO_LINE_END = Step(LINE)
 

@@ -32,8 +32,11 @@ from .parts import LINE
 from .seen import SeenElement, ShownRule
 
 PAGE, REGISTERS = "docs/RASTER.md#", "docs/REGISTERS.md#"
-LINES, CLOCK = (LINE,), ("advance",)
-CURSOR_OFF, HALF_OF_CURSOR, HALF_OF_BLINK = 0x20, 8, 16
+LINES = (LINE,)
+CLOCK = ("advance",)
+CURSOR_OFF = 0x20
+HALF_OF_CURSOR = 8
+HALF_OF_BLINK = 16
 
 
 class Cell(NamedTuple):

@@ -12,15 +12,21 @@ from .parts import Parts
 from .wishes import ElementKind, Wish
 
 PARTS = ("misc", "seq", "gfx", "latches", "planes")
-CHAIN_4, ODD_EVEN, PLANAR = "chain 4", "odd/even", "planar"
+CHAIN_4 = "chain 4"
+ODD_EVEN = "odd/even"
+PLANAR = "planar"
 SPREADS = (CHAIN_4, ODD_EVEN, PLANAR)
 # Bits of miscellaneous output that change nothing here.
 OTHER_BITS = 0xED
 # Bits of memory mode: odd/even is off, and chain 4. Of graphics mode: read compare, odd/even, and
 # 256 colours. Of miscellaneous: graphics, and chain odd/even.
-ODD_EVEN_OFF, CHAIN = 0x04, 0x08
-READ_COMPARE, ODD_EVEN_READ, PACKED = 0x08, 0x10, 0x40
-GRAPHICS, CHAIN_ODD_EVEN = 0x01, 0x02
+ODD_EVEN_OFF = 0x04
+CHAIN = 0x08
+READ_COMPARE = 0x08
+ODD_EVEN_READ = 0x10
+PACKED = 0x40
+GRAPHICS = 0x01
+CHAIN_ODD_EVEN = 0x02
 MOST_ADDRESS = 0xFFFFFFFF
 # How many of the three bits of odd/even are set: all of them every other time.
 ALL_BITS = 0b111

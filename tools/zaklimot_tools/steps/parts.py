@@ -90,13 +90,11 @@ ORDER = (
     "bda",
 )
 # What an element has beside its step and its two states.
-NAME, INITIAL, FINAL, ANSWER, REFUSED, REACH = (
-    "name",
-    "initial",
-    "final",
-    "answer",
-    "refused",
-    "reach",
-)
+NAME = "name"
+INITIAL = "initial"
+FINAL = "final"
+ANSWER = "answer"
+REFUSED = "refused"
+REACH = "reach"
 # The step of a scan line: it goes to the line's end, and answers the dots.
 LINE = "line"

@@ -45,9 +45,11 @@ from .parts import Parts
 from .wishes import ElementKind, Wish
 
 # Ports that the profile leaves out: subsystem enable, and where feature control is read.
-ENABLE, FEATURE = 0x3C3, 0x3CA
+ENABLE = 0x3C3
+FEATURE = 0x3CA
 # A value of CRT controller's mode control that isn't refused, and the bits that may vary in it.
-COUNTING, COUNTED = 0x03, 0xE0
+COUNTING = 0x03
+COUNTED = 0xE0
 DAC = ("dac_index", "dac_component", "dac_mask", "dac_waiting", "colours")
 INDEXES = ("seq_index", "gfx_index", "crtc_index", "attr_index", "attr_is_data")
 SMALL_DAC = ("dac_index", "dac_component", "dac_mask")

@@ -15,7 +15,8 @@ from zaklimot_tools.explain.banks import (
 from .seen import Branch, SeenElement, ShownRule
 
 PAGE = "docs/REGISTERS.md#"
-BYTES, WORDS = ("out", "in"), ("outw", "inw")
+BYTES = ("out", "in")
+WORDS = ("outw", "inw")
 ANY = (*BYTES, *WORDS)
 
 

@@ -23,18 +23,24 @@ from zaklimot_tools.explain.banks import (
 from .parts import CURSORS, Parts
 
 # Memory is decoded, and the CRT controller is at 3D4; so input status 1 is at this port.
-OPEN, STATUS_PORT = ENABLE_MEMORY | IS_COLOUR, COLOUR + STATUS
+OPEN = ENABLE_MEMORY | IS_COLOUR
+STATUS_PORT = COLOUR + STATUS
 # Memory such that a byte goes to the planes of the map mask at its address' offset: memory mode,
 # graphics registers, and the window of 64 KiB.
 PLANAR = ((SEQUENCER, 4, 0x06), (GRAPHICS, 1, 0), (GRAPHICS, 3, 0), (GRAPHICS, 5, 0))
 WINDOW = ((GRAPHICS, 6, 0x04), (GRAPHICS, 8, 0xFF))
-FIRST_ADDRESS, LAST_OFFSET = 0xA0000, 0xFFFF
-MAP_MASK, ALL_PLANES, PLANES = 2, 0x0F, 4
+FIRST_ADDRESS = 0xA0000
+LAST_OFFSET = 0xFFFF
+MAP_MASK = 2
+ALL_PLANES = 0x0F
+PLANES = 4
 # The services that bring the BIOS data to what they are to be, and heights of glyphs with the part
 # of service 11 that loads them.
 KEEP_MEMORY = 0x80
 LOADS = {8: 0x1112, 14: 0x1111}
-SERVICE_01, SERVICE_02, SERVICE_05 = 0x0100, 0x0200, 0x0500
+SERVICE_01 = 0x0100
+SERVICE_02 = 0x0200
+SERVICE_05 = 0x0500
 
 
 def out(port: int, value: int) -> Step:

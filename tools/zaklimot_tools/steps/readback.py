@@ -37,7 +37,10 @@ from .reaching import (
     scratch,
 )
 
-MODE, READ_MAP, WRITE_MODE_1, SHOWN = 5, 4, 1, 0x20
+MODE = 5
+READ_MAP = 4
+WRITE_MODE_1 = 1
+SHOWN = 0x20
 # The parts of which nothing can be read.
 HIDDEN = ("attr_is_data", "dac_component", "dac_waiting", "sums", "beam", "bda")
 

@@ -36,11 +36,13 @@ from .parts import (
 # A longer line is no element.
 MOST_LINE = 1 << 22
 # How gzip files begin; and how hard they are packed.
-GZIP, LEVEL = b"\x1f\x8b", 9
+GZIP = b"\x1f\x8b"
+LEVEL = 9
 # The steps that an element may have; and the parts of a call.
 STEPS = ("out", "outw", "in", "inw", "put", "putw", "get", "getw", "advance", "int", LINE)
 BLOCK = "block"
-MOST_PLACES, MOST_DOTS = 1 << 16, 1 << 28
+MOST_PLACES = 1 << 16
+MOST_DOTS = 1 << 28
 MOST_SUM = (1 << 32) - 1
 # The most that steps read, by the kinds of their answers.
 MOST_READ = {READ_BYTE: 0xFF, READ_WORD: 0xFFFF}

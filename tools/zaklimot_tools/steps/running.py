@@ -18,9 +18,11 @@ from .library import structs as s
 # A report of an element has fewer bytes: all planes as dumps, and a picture.
 MOST_REPORT = 1 << 24
 # A longer file is no font file; and the status that tells this of a shorter one.
-MOST_FONTS, FONT_SIZE = 1 << 16, 22
+MOST_FONTS = 1 << 16
+FONT_SIZE = 22
 # What glibc's mallopt calls the size from which memory comes from the system, and goes back to it.
-MMAP_THRESHOLD, FROM_SYSTEM = -3, 1 << 22
+MMAP_THRESHOLD = -3
+FROM_SYSTEM = 1 << 22
 
 
 class Runner(NamedTuple):

@@ -52,7 +52,9 @@ from .reading import step_of
 
 REGISTER_PARTS = ("misc", "seq", "gfx", "crtc", "attr", "dac_index")
 # So many bytes of a plane has a dump, and so many entries the DAC.
-MOST_DUMPED, PLANES, ENTRIES = 256, 4, 256
+MOST_DUMPED = 256
+PLANES = 4
+ENTRIES = 256
 # The refusals as reports have them, with their names.
 REFUSED_AS = {refusal_of(number): name for number, name in REFUSALS.items()}
 # The words of the beam's dump, and of that of the BIOS data, by the names of the fields.

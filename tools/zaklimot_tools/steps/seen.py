@@ -9,7 +9,8 @@ from zaklimot_tools.explain.banks import COLOUR, IS_COLOUR, MONOCHROME, WINDOWS,
 from .parts import ANSWER, FINAL, INITIAL, ORDER, REACH, REFUSED, Element, Parts
 from .reading import step_of
 
-WRITES, READS = ("put", "putw"), ("get", "getw")
+WRITES = ("put", "putw")
+READS = ("get", "getw")
 
 
 class LacksPart(LookupError):

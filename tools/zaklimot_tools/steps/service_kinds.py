@@ -14,7 +14,9 @@ from .port_kinds import controller, small_frame
 from .reaching import services, steps_to
 from .wishes import ElementKind, Wish
 
-TEXTS, PLANAR_MODES, PACKED_MODES = (3, 7), (0x0D, 0x10, 0x12), (0x13,)
+TEXTS = (3, 7)
+PLANAR_MODES = (0x0D, 0x10, 0x12)
+PACKED_MODES = (0x13,)
 PIXELS = (*PLANAR_MODES, *PACKED_MODES)
 MODES = (*TEXTS, *PIXELS)
 
@@ -43,7 +45,8 @@ ONE_PAGE = (0x12, 0x13)
 NO_DATA: Parts = {"mode": 0, CURSORS: [0] * PAGES}
 # A service that touches more places than this has the sums of all memory instead, and so many of
 # its places.
-MOST_PLACES, FEW_PLACES = 200, 6
+MOST_PLACES = 200
+FEW_PLACES = 6
 PORTS = ("misc", "bda")
 CURSOR = ("misc", "crtc_index", "crtc", "bda")
 MEMORY = ("misc", "seq_index", "seq", "gfx_index", "gfx", "latches", "planes", "bda")

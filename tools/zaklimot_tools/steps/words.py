@@ -10,7 +10,8 @@ from zaklimot_tools.core.words import MOST_JOBS, number_to, seconds
 from zaklimot_tools.script.words import add_program
 
 # So many elements has a file at most, and the largest seed.
-MOST_COUNT, MOST_SEED = 1_000_000, (1 << 32) - 1
+MOST_COUNT = 1_000_000
+MOST_SEED = (1 << 32) - 1
 FEWEST = 50
 COMMAND = """the command that holds an adapter, as one word of the shell. It reads elements as lines
 of JSON on standard input, without their answers, and answers each with a line"""

@@ -5,19 +5,25 @@ from typing import NamedTuple, Optional, Union
 
 # When a script has a frame: at its end alone, before each page flip, where a screen was taken, once
 # in each frame of the dot clock in which something was written, or every so many seconds.
-END, FLIP, SCREENS, CLOCK = "end", "flip", "screens", "clock"
+END = "end"
+FLIP = "flip"
+SCREENS = "screens"
+CLOCK = "clock"
 # The same as the last, with the beam where it was at each write.
 BEAM = "beam"
 Frames = Union[str, float]
 # Which reads of input status 1 are kept: all, or the first of several.
-KEEP, FIRST = "keep", "first"
+KEEP = "keep"
+FIRST = "first"
 # When a screen is taken: once the software is quiet.
 QUIET = "quiet"
 # The speeds of the page's machine, as the page's list has them, and the one that it begins with.
 SPEEDS = ("8088", "286", "386", "fastest")
 USUAL_SPEED = "386"
 # How text is written that a screen shows, and the code page of its characters.
-PLAIN, ANSI, HTML = "plain", "ansi", "html"
+PLAIN = "plain"
+ANSI = "ansi"
+HTML = "html"
 FORMS = (PLAIN, ANSI, HTML)
 USUAL_PAGE = "cp437"
 # Pictures are compared that stand for so many seconds.

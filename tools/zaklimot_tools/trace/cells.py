@@ -28,14 +28,22 @@ from .asked import USUAL_PAGE
 from .state import COMPONENTS, State
 
 # Registers of the attribute controller, and bits of its mode control.
-CONTROL, OVERSCAN, PLANE_ENABLE, COLOUR_SELECT = 0x10, 0x11, 0x12, 0x14
-IS_MONOCHROME, BLINKS, SELECTS_TWO, SOURCE = 0x02, 0x08, 0x80, 0x20
+CONTROL = 0x10
+OVERSCAN = 0x11
+PLANE_ENABLE = 0x12
+COLOUR_SELECT = 0x14
+IS_MONOCHROME = 0x02
+BLINKS = 0x08
+SELECTS_TWO = 0x80
+SOURCE = 0x20
 SCREEN_OFF = 0x20
 # The CRT controller's registers of the cursor.
 CURSOR = (0x0A, 0x0B, 0x0E, 0x0F)
 # What a VGA's own glyphs show where a code page has controls.
 GLYPHS_OF_CONTROLS = " ☺☻♥♦♣♠•◘○◙♂♀♪♫☼►◄↕‼¶§▬↨↑↓→←∟↔▲▼"
-DELETE, GLYPH_OF_DELETE, UNKNOWN = 0x7F, "⌂", "\ufffd"
+DELETE = 0x7F
+GLYPH_OF_DELETE = "⌂"
+UNKNOWN = "\ufffd"
 Colour = tuple[int, int, int]
 
 

@@ -21,7 +21,8 @@ COLUMNS = 16
 LIGHT = 63
 # Where no offset is set, a row of a plane has so many bytes.
 USUAL_ROW = 80
-GRAPHICS_MODE, COLOURS_256 = 5, 0x40
+GRAPHICS_MODE = 5
+COLOURS_256 = 0x40
 # How many glyphs stand side by side.
 GLYPHS_IN_ROW = 64
 # So many pages are drawn at most.

@@ -22,14 +22,20 @@ KEPT = re.compile(
 )
 NEEDED = (NOTE, TRACE, VERDICT)
 # A ZIP has so many files at most, and these so many bytes; so many bytes list them.
-MOST_FILES, MOST_UNPACKED, MOST_LISTED = 1 << 12, 1 << 32, 1 << 20
+MOST_FILES = 1 << 12
+MOST_UNPACKED = 1 << 32
+MOST_LISTED = 1 << 20
 CHUNK = 1 << 20
 ZIP = b"PK\3\4"
 # The end of a ZIP: it tells how many files there are, and how many bytes list them. A comment may
 # follow.
-END, END_MAGIC, MOST_COMMENT = struct.Struct("<4sHHHHIIH"), b"PK\5\6", 0xFFFF
+END = struct.Struct("<4sHHHHIIH")
+END_MAGIC = b"PK\5\6"
+MOST_COMMENT = 0xFFFF
 # What each file has, so that the same files give the same bytes: a time, rights, and a system.
-TIME, RIGHTS, UNIX = (1980, 1, 1, 0, 0, 0), 0o100644 << 16, 3
+TIME = (1980, 1, 1, 0, 0, 0)
+RIGHTS = 0o100644 << 16
+UNIX = 3
 # What a ZIP raises whose bytes are wrong, or whose files are packed in a way of their own.
 DAMAGE = (zipfile.BadZipFile, zlib.error, EOFError, NotImplementedError, RuntimeError)
 # These are packed already.

@@ -69,7 +69,8 @@ BLOCK_BYTES = format.Block(1, ()).size
 MOST_GROUP = 8
 # Steps that are looked at ahead: as many as the shortest row that is worth a block may have. More
 # are fetched at once.
-AHEAD, FETCHED = 64, 4096
+AHEAD = 64
+FETCHED = 4096
 # A step as its bytes or its line.
 Code = Callable[[TraceStep], bytes]
 # Microseconds that are put together before they become a step: about a line.
@@ -80,9 +81,11 @@ START_ADDRESS = (0x0C, 0x0D)
 # What gives the opcode of a step.
 OPCODE_OF: Callable[[TraceStep], int] = attrgetter("opcode")
 # The steps that read a byte, and their answers.
-READING_BYTES, BYTES = (IN, GET), {f"{value:02X}" for value in range(256)}
+READING_BYTES = (IN, GET)
+BYTES = {f"{value:02X}" for value in range(256)}
 # How a step is answered that was done, and those that are answered so.
-DONE, DOING = "ok", (OUT, OUTW, PUT, PUTW, ADVANCE)
+DONE = "ok"
+DOING = (OUT, OUTW, PUT, PUTW, ADVANCE)
 OTHER_SCRIPT = "it is of another script"
 # Windows of memory, by the 32 KiB that they have, and the bits of an address in one.
 WINDOW_BITS = 15

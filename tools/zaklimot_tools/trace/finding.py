@@ -22,7 +22,8 @@ from .trace import opened
 from .walking import Item, Question, Walk
 
 # Characters and attributes are in two planes, which are shown block by block.
-TEXT, BLOCKS = (0, 1), range(PLANE_BYTES // SHOWN_BYTES)
+TEXT = (0, 1)
+BLOCKS = range(PLANE_BYTES // SHOWN_BYTES)
 WINDOW_BEGINS = sorted({window.first for window in WINDOWS})
 
 

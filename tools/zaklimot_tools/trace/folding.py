@@ -22,7 +22,8 @@ def _row(*values: bytes) -> "re.Pattern[bytes]":
 
 
 # All polls, and those within vertical retrace and outside it.
-ROW, ROW_OF_BEAM = _row(b"[0189]"), _row(b"[01]", b"[89]")
+ROW = _row(b"[0189]")
+ROW_OF_BEAM = _row(b"[01]", b"[89]")
 # The line that tells of polls. The filter of the log keeps it with those of the VGA.
 FOLDED = re.compile(rb"polls ([0-9]{1,18}) of 'vga-trace'\s*")
 

@@ -9,11 +9,15 @@ from zaklimot_tools.explain.raster import character_maps, is_graphics, map_begin
 
 from .state import State
 
-GLYPHS, GLYPH_BYTES, WIDTH = 256, 32, 8
+GLYPHS = 256
+GLYPH_BYTES = 32
+WIDTH = 8
 FONT_PLANE = 2
 PSF = struct.Struct("<4sIIIIIII")
 UNKNOWN = "\ufffd"
-PSF_MAGIC, PSF_HAS_UNICODE, PSF_END = b"\x72\xb5\x4a\x86", 1, b"\xff"
+PSF_MAGIC = b"\x72\xb5\x4a\x86"
+PSF_HAS_UNICODE = 1
+PSF_END = b"\xff"
 # Pixels of an inch, as BDF wants them.
 INCH = 75
 

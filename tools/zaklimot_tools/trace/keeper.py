@@ -15,9 +15,11 @@ from .parts import Parts, not_kept
 MOST_KEPT = 1 << 30
 CHUNK = 1 << 16
 # How the lines of polls are told, and the seconds of a frame.
-POLLS, FRAME = (b" addr 0x3da ", b" addr 0x3ba "), 1 / 60
+POLLS = (b" addr 0x3da ", b" addr 0x3ba ")
+FRAME = 1 / 60
 # The time of a line, in seconds, and the bytes at the end of a chunk among which one stands.
-TIMED, LAST_LINES = re.compile(rb"^[0-9]{1,10}@([0-9]{1,12}\.[0-9]{6}):", re.MULTILINE), 512
+TIMED = re.compile(rb"^[0-9]{1,10}@([0-9]{1,12}\.[0-9]{6}):", re.MULTILINE)
+LAST_LINES = 512
 
 
 class Keeper(Thread):

@@ -11,7 +11,8 @@ from zaklimot_tools.core.processes import run
 from zaklimot_tools.core.trouble import Trouble
 
 # Seconds within which it answers, and between two looks whether it listens.
-ANSWERING, PAUSE = 10, 0.02
+ANSWERING = 10
+PAUSE = 0.02
 QEMU = "qemu-system-x86_64"
 # The words of a machine that is asked and not run, and what it is asked.
 ASKED = ("-machine", "none", "-nodefaults", "-display", "none", "-qmp", "stdio")

@@ -15,13 +15,15 @@ from zaklimot_tools.core.trouble import Trouble
 from .parts import Parts, not_kept
 
 # The files of a recording that tell how it was made, and how it was judged.
-NOTE, VERDICT = "recording.json", "verdict.txt"
+NOTE = "recording.json"
+VERDICT = "verdict.txt"
 MOST_NOTE = 1 << 20
 CHUNK = 1 << 20
 FRONT = {"is": "zaklimot recording", "version": 1}
 # Software that reads input status 1 so often within a frame waits for the beam.
 MANY_POLLS = 1000
-QEMU_MACHINE, PAGE_MACHINE = "qemu", "page"
+QEMU_MACHINE = "qemu"
+PAGE_MACHINE = "page"
 
 
 @dataclass

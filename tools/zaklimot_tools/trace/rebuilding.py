@@ -10,10 +10,15 @@ from .trace import Call
 
 # Functions of interrupt 10, in AH: a mode set, the cursor's scan lines, a cursor's position, the
 # page that is shown, and the glyphs of the ROM, by the lines of a character.
-SET_MODE, SET_LINES, SET_CURSOR, SHOW_PAGE, LOAD_GLYPHS = 0x00, 0x01, 0x02, 0x05, 0x11
+SET_MODE = 0x00
+SET_LINES = 0x01
+SET_CURSOR = 0x02
+SHOW_PAGE = 0x05
+LOAD_GLYPHS = 0x11
 # A mode set loads those of 16 lines.
 FONT_PARTS = {14: 0x11, 8: 0x12}
-TEXT_MODES, KEEPS_MEMORY = (3, 7), 0x80
+TEXT_MODES = (3, 7)
+KEEPS_MEMORY = 0x80
 
 
 def _call(ax: int, bx: int = 0, cx: int = 0, dx: int = 0) -> TraceStep:

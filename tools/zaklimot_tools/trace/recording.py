@@ -54,7 +54,10 @@ BARE = (
 PRECISE = ("-vga", "none,retrace=precise")
 # Seconds between two looks, between two keys, and that the cursor's phase lasts about half of; and
 # in which qemu ends that can't begin.
-LOOK, PRESSING, PHASE, BEGINNING = 0.05, 0.1, 0.12, 0.3
+LOOK = 0.05
+PRESSING = 0.1
+PHASE = 0.12
+BEGINNING = 0.3
 # Screens are taken again and again, since qemu blinks by a clock of its own.
 PHASES = 6
 # So many names of keys are told that are like one that is none.

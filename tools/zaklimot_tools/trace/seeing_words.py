@@ -13,8 +13,12 @@ from zaklimot_tools.script.words import add_program
 
 from .asked import FORMS, PLAIN, STILL, USUAL_PAGE
 
-MOST_CYCLES, MOST_SCREENS, MOST_PICTURES, MOST_FOUND = 1 << 40, 9999, 1 << 24, 1 << 20
-MOST_MAP, MOST_HEIGHT = 7, 32
+MOST_CYCLES = 1 << 40
+MOST_SCREENS = 9999
+MOST_PICTURES = 1 << 24
+MOST_FOUND = 1 << 20
+MOST_MAP = 7
+MOST_HEIGHT = 32
 _seeing = partial(later, "zaklimot_tools.trace.seeing")
 TRACE = (
     "qemu's log or lines of the plain form, also compressed by gzip, or the folder of a recording;"

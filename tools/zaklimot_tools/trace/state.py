@@ -35,16 +35,19 @@ from .step import ADVANCE, FRAME, GET, GETW, IN, INW, OUT, OUTW, PUT, PUTW, READ
 from .trace import ALL_PLANES
 
 
-FIRST_ADDRESS, PLANES = 0xA0000, 4
+FIRST_ADDRESS = 0xA0000
+PLANES = 4
 # A byte in each of the four bytes of a word, and words of which the bytes of some planes are FF.
 EACH = 0x01010101
 SPREAD = tuple(
     sum(0xFF << 8 * plane for plane in range(PLANES) if planes >> plane & 1) for planes in range(16)
 )
-EVEN, ODD = 0b0101, 0b1010
+EVEN = 0b0101
+ODD = 0b1010
 # What is done with data and the latches, by the function of data rotate.
 FUNCTIONS: tuple[Callable[[int, int], int], ...] = (lambda data, _: data, and_, or_, xor)
-COMPONENTS, ENTRIES = 3, 256
+COMPONENTS = 3
+ENTRIES = 256
 # Frames are counted modulo so many: the cursor and blinking text go by this number.
 FRAMES = 32
 # The CRT controller's registers that are taken at a frame's first dot: preset row scan, start
@@ -60,7 +63,8 @@ PLANAR = (
 )
 MAP_MASK = 0x02
 # Where calls of interrupt 10 load glyphs: the planes, as a mask, and how many bytes.
-FONT_PLANES, FONT_BYTES = 0b0100, 0x2000
+FONT_PLANES = 0b0100
+FONT_BYTES = 0x2000
 Value = TypeVar("Value")
 
 

@@ -17,7 +17,8 @@ NAMES = {FORMS[name].opcode: name for name in (*CYCLES, "advance", "frame", "int
 OUT, OUTW, IN, INW, PUT, PUTW, GET, GETW, ADVANCE, FRAME, INT = NAMES
 READS = (IN, INW, GET, GETW)
 WRITES = (OUT, OUTW, PUT, PUTW, INT)
-PORTS, WORDS = (OUT, OUTW, IN, INW), (OUTW, INW, PUTW, GETW)
+PORTS = (OUT, OUTW, IN, INW)
+WORDS = (OUTW, INW, PUTW, GETW)
 # Steps of which two may be one of a word.
 HALVES = (PUT, GET)
 # What packs an opcode with an address and a value, and with an address alone.

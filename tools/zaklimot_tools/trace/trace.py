@@ -28,16 +28,21 @@ from .parts import Chained, parts_of
 # Where a cycle goes: a port, display memory, or a port of the Bochs VBE extensions, which is none
 # of a VGA's. A call of interrupt 10, which the adapter's own BIOS serves, stands for all of its
 # cycles.
-PORT, MEMORY, VBE, CALL = "port", "memory", "vbe", "call"
+PORT = "port"
+MEMORY = "memory"
+VBE = "vbe"
+CALL = "call"
 # Memory while VBE is on, of which the window shows a part that is none of a VGA's.
 VESA = "VBE memory"
 NO_VGA = (VBE, VESA)
 SIZES = (1, 2, 4, 8)
 # Addresses above these are none.
-MOST_PORT, MOST_ADDRESS = 0xFFFF, 0xFFFFFFFF
+MOST_PORT = 0xFFFF
+MOST_ADDRESS = 0xFFFFFFFF
 # Longer lines are none of a trace's, and no trace has more before its first cycle. A call's block
 # has two digits a byte.
-MOST_LINE, MOST_BEFORE = 1 << 18, 1 << 26
+MOST_LINE = 1 << 18
+MOST_BEFORE = 1 << 26
 # So many bytes are read at a time.
 CHUNK = 1 << 16
 GZIP = b"\x1f\x8b"
@@ -92,8 +97,11 @@ PASSED = re.compile(rb"\s*(?:;.*)?", re.DOTALL)
 # What tells that a trace lacks something: registers of the VGA, and of the Bochs VBE extensions.
 VBE_INDEX = 0x1CE
 INDEX_OF = {0x3C5: SEQUENCER, 0x1CF: VBE_INDEX, 0x1D0: VBE_INDEX}
-MAP_MASK, MEMORY_MODE, VBE_ENABLE = (SEQUENCER, 2), (SEQUENCER, 4), (VBE_INDEX, 4)
-ALL_PLANES, CHAIN_4 = 0x0F, 0x08
+MAP_MASK = (SEQUENCER, 2)
+MEMORY_MODE = (SEQUENCER, 4)
+VBE_ENABLE = (VBE_INDEX, 4)
+ALL_PLANES = 0x0F
+CHAIN_4 = 0x08
 # The ports that tell so and those of their indexes, and the ports before them, whose words reach
 # them.
 WATCHED = {port - at for port in INDEX_OF for at in range(3)}

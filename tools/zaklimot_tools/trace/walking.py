@@ -27,7 +27,8 @@ FRAME_STEP = format.Step("frame", ())
 # A script has so many bytes and steps of a trace at most. What is left of those that it may have is
 # for the steps that rebuild a state at its begin, and those that ask for one at its end.
 ROOM = 1 << 21
-MOST_PART, MOST_PART_STEPS = MOST_BYTES - ROOM, MOST_STEPS - ROOM
+MOST_PART = MOST_BYTES - ROOM
+MOST_PART_STEPS = MOST_STEPS - ROOM
 
 
 Tag = TypeVar("Tag")

@@ -20,11 +20,14 @@ FIRST_MARK = (
     "<!-- What stands from here to the next mark is made by `tools/vga-emulators table`. -->"
 )
 LAST_MARK = "<!-- The end of what `tools/vga-emulators table` makes. -->"
-ON, BIOS = re.compile(r"--on[ =](\w+)"), re.compile(r"--bios[ =](\w+)")
+ON = re.compile(r"--on[ =](\w+)")
+BIOS = re.compile(r"--bios[ =](\w+)")
 # Longer answers are cut.
 MOST_ANSWER = 24
 # What a rule's cell says where no case of it differs.
-SAME, NOTHING, WORD_FAILED = "same", "not compared", "fails"
+SAME = "same"
+NOTHING = "not compared"
+WORD_FAILED = "fails"
 
 
 class CaseResult(NamedTuple):

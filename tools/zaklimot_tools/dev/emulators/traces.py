@@ -54,7 +54,8 @@ menuentry "Real software" { echo one; sleep 1 }
 menuentry "on a planar screen" { echo two; sleep 1 }
 menuentry "of sixteen colours" { echo three; sleep 1 }
 """
-SEA, LGPL = "/usr/share/seabios/vgabios-stdvga.bin", "/usr/share/vgabios/vgabios.bin"
+SEA = "/usr/share/seabios/vgabios-stdvga.bin"
+LGPL = "/usr/share/vgabios/vgabios.bin"
 # What Linux runs: lines in all colours, more than the screen has, and no cursor at the end.
 INIT = """#!/bin/busybox sh
 /bin/busybox mount -t devtmpfs dev /dev

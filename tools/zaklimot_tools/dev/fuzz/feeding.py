@@ -17,7 +17,8 @@ from .making import Feed
 
 
 DONE = "done"
-WRITE_FAULT, OUT_OF_MEMORY = "F9 WriteFault", "F10 OutOfMemory"
+WRITE_FAULT = "F9 WriteFault"
+OUT_OF_MEMORY = "F10 OutOfMemory"
 # So much of what a program says on standard error is read.
 MOST_SAID = 4096
 

@@ -10,7 +10,8 @@ from zaklimot_tools.core.words import number_to, seconds
 
 
 # The largest numbers of options: MiB that a run may take, and inputs.
-MOST_MEBIBYTES, MOST_NUMBER = 1 << 16, 1 << 62
+MOST_MEBIBYTES = 1 << 16
+MOST_NUMBER = 1 << 62
 # What jobs of the command line are functions of.
 _job = partial(later, "zaklimot_tools.dev.fuzz.command")
 

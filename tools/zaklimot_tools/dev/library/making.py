@@ -51,7 +51,9 @@ MOVING = ""
 # What is kept for `install`, for each processor in a folder of its own.
 FOLDER = CRATE / "out" / "made"
 # The crate's archive, the functions that take its memory, and what they were made of.
-CRATES, MEMORY, MADE_OF = "crates.a", "memory.a", "made-of"
+CRATES = "crates.a"
+MEMORY = "memory.a"
+MADE_OF = "made-of"
 
 
 class Target(NamedTuple):

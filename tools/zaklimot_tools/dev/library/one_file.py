@@ -22,10 +22,12 @@ from zaklimot_tools.dev.page.making import WASM_OPT
 # The file as the repository has it, and the program over it.
 C_FILE, PROGRAM = (TOP / "portable" / name for name in ("zaklimot.c", "vga.c"))
 HAND = Path(__file__).resolve().parent / "c"
-HEAD, MEMORY = HAND / "head.c", HAND / "memory.c"
+HEAD = HAND / "head.c"
+MEMORY = HAND / "memory.c"
 CALLS = [HAND / name for name in ("cards.c", "pictures.c", "readings.c", "scripts.c")]
 # The program that writes C, and the name that the module gets in what it writes.
-WASM2C, NAME = "wasm2c", "zaklimot"
+WASM2C = "wasm2c"
+NAME = "zaklimot"
 TRANSLATORS = (WASM_OPT, WASM2C)
 # The file has at most so many bytes.
 MOST_BYTES = 3_000_000
@@ -66,7 +68,8 @@ REPLACED = (
 # How a function ends that meets a trap. One that answers a number of 32 bits may be a call, which
 # answers its status.
 LEAVES = {"void": "return;", "u32": "return ZAK_BROKEN;", "u64": "return 0;"}
-GROWS, TRAPS = "memory_grow(self", "UNREACHABLE;"
+GROWS = "memory_grow(self"
+TRAPS = "UNREACHABLE;"
 # A division, which traps where its divisor is 0.
 DIVISION = re.compile(r"^( *)(\w+) = (DIV|REM)_U\((\w+), (\w+)\);$", re.M)
 OPERATORS = {"DIV": "/", "REM": "%"}

@@ -26,8 +26,10 @@ from .compilers import SANITIZED, STRICT, Built, Compiler, build, run
 
 
 SOURCES = Path(__file__).resolve().parent / "c"
-LAYOUT, OBJECTS = SOURCES / "layout.c", SOURCES / "objects.cpp"
-C_STANDARDS, CPP_STANDARDS = ("c99", "c11", "c17"), ("c++11", "c++14", "c++17", "c++20")
+LAYOUT = SOURCES / "layout.c"
+OBJECTS = SOURCES / "objects.cpp"
+C_STANDARDS = ("c99", "c11", "c17")
+CPP_STANDARDS = ("c++11", "c++14", "c++17", "c++20")
 # Those that the C++ header is for.
 OBJECT_STANDARDS = ("c++17", "c++20")
 # The form of C that has static asserts.
@@ -56,7 +58,8 @@ ROMS = [
 ]
 # Boot sectors. One sets a mode and then loops; one halts with interrupts off, and a tick that
 # waits.
-LOOPS, HALTS = "B8{mode:02X}00 CD10 EBFE", "FA BA0600 B9FFFF E2FE 4A 75F8 F4 EBFE"
+LOOPS = "B8{mode:02X}00 CD10 EBFE"
+HALTS = "FA BA0600 B9FFFF E2FE 4A 75F8 F4 EBFE"
 # What the second one runs until it halts: six times 65,535 rounds of a loop are longer than a tick.
 TO_HALT = 2 + 6 * (0xFFFF + 3) + 1
 SECTOR = 512
@@ -243,10 +246,13 @@ def check_memory(built: Built, folder: Path) -> str:
 
 
 # So many lines are told of cases that do not agree; what `vga-report suite` begins them with.
-MOST_TOLD, OF_A_CASE = 20, 11 * " "
+MOST_TOLD = 20
+OF_A_CASE = 11 * " "
 # What the harness is given for a text, and for bytes; steps of a slice are so few that most cases
 # have several.
-TEXTS, BYTES, SLICES = "{script} {fonts} {until}", "--bytes {script} {fonts}", "--slices 7"
+TEXTS = "{script} {fonts} {until}"
+BYTES = "--bytes {script} {fonts}"
+SLICES = "--slices 7"
 
 
 class HarnessWords(NamedTuple):
@@ -321,7 +327,9 @@ REPORT = "1 ax=0003 bx=0000 cx=0000 dx=0000/2 ok/3 41/4 ok/5 41/6 67".split("/")
 # A text of more steps than lie between two states that the debugger keeps. The beam moves, so each
 # step has its own.
 LONG = "version 2\nint ax=13\nrepeat 90\nadvance 12345\nshow beam\nin 3DA\nend\nframe\n"
-LONG_STEPS, FROM, BACK = 272, 150, 45
+LONG_STEPS = 272
+FROM = 150
+BACK = 45
 
 
 def check_picture(

@@ -46,7 +46,8 @@ OUTSIDE = frozenset(("calloc", "realloc", "free", "memcpy", "memmove", "memset",
 HELPERS = ("__", "_GLOBAL_OFFSET_TABLE_")
 # With these words the file ends the program at an access beside its memory, and a card has no
 # memory to spare.
-CHECKED, TIGHT = "-DZAKLIMOT_CHECKED", "-DZAKLIMOT_TIGHT"
+CHECKED = "-DZAKLIMOT_CHECKED"
+TIGHT = "-DZAKLIMOT_TIGHT"
 LEAST_REFUSED = 10
 
 

@@ -28,7 +28,8 @@ QUICK = "-O0"
 BELOW = Path(__file__).resolve().parent / "below"
 # How a project takes it, and whether it asks for shared libraries.
 WAYS = {"add_subdirectory": "OFF", "FetchContent": "ON"}
-SYS, SAFE = "zaklimot-sys", "zaklimot"
+SYS = "zaklimot-sys"
+SAFE = "zaklimot"
 # What each packed crate has, beside its sources.
 HAVING = ("Cargo.toml", "LICENSE", "README.md", "build.rs")
 PACKED = {

@@ -26,14 +26,20 @@ except ImportError:
     # The cases of manual.py need none of it.
     x86 = None
 
-MEMORY, CODE_SEGMENT, OFFSET = 0x100000, 0x1000, 0x100
-CODE, CODE_BYTES = 16 * CODE_SEGMENT + OFFSET, 16
+MEMORY = 0x100000
+CODE_SEGMENT = 0x1000
+OFFSET = 0x100
+CODE = 16 * CODE_SEGMENT + OFFSET
+CODE_BYTES = 16
 # Where tables of descriptors stand, and what is told where there is no fault.
-TABLES, NO_FAULT = 0x40000, 0xFFFFFFFF
+TABLES = 0x40000
+NO_FAULT = 0xFFFFFFFF
 # Memory is compared in parts of so many bytes, and a case may change so many bytes.
-PART, MOST_CHANGED = 4096, 400
+PART = 4096
+MOST_CHANGED = 400
 PREFIXES = (0x26, 0x2E, 0x36, 0x3E, 0x64, 0x65, 0x66, 0x67, 0xF0, 0xF2, 0xF3)
-REPEATS, STRINGS = (0xF2, 0xF3), (0x6C, 0x6D, 0x6E, 0x6F, *range(0xA4, 0xA8), *range(0xAA, 0xB0))
+REPEATS = (0xF2, 0xF3)
+STRINGS = (0x6C, 0x6D, 0x6E, 0x6F, *range(0xA4, 0xA8), *range(0xAA, 0xB0))
 COMPARING = (0xA6, 0xA7, 0xAE, 0xAF)
 # What is left to a table by hand: halts, interrupts, and what no 386 has. x87 is lacking.
 LEFT_OUT = {
@@ -70,7 +76,12 @@ REGISTERS, SEGMENTS = (
     for names in ("EAX ECX EDX EBX ESP EBP ESI EDI", "ES CS SS DS FS GS")
 )
 REAL = (0x3000, CODE_SEGMENT, 0x4000, 0x2000, 0x5000, 0x6000)
-CARRY, PARITY, ADJUST, ZERO, SIGN, OVERFLOW = 0x001, 0x004, 0x010, 0x040, 0x080, 0x800
+CARRY = 0x001
+PARITY = 0x004
+ADJUST = 0x010
+ZERO = 0x040
+SIGN = 0x080
+OVERFLOW = 0x800
 ALL = CARRY | PARITY | ADJUST | ZERO | SIGN | OVERFLOW
 CONTROL = 0x700
 VALUES = (0, 1, 0x7F, 0x80, 0xFF, 0x7FFF, 0x8000, 0xFFFF, 0x7FFFFFFF, 0x80000000, 0xFFFFFFFF)

@@ -28,7 +28,8 @@ HERE = Path(__file__).resolve().parent
 COMPILER = "cc"
 # One process makes so many cases, since it may end amid them; and of descriptors so many are
 # compared.
-CHUNK, DESCRIBED = 2000, 2000
+CHUNK = 2000
+DESCRIBED = 2000
 SECONDS = 600
 COUNT = re.compile(
     r"^([0-9]+) cases: ([0-9]+) differ, ([0-9]+) lacking, ([0-9]+) beyond a segment's end$", re.M

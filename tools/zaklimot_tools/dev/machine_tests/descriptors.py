@@ -22,16 +22,27 @@ try:
 except ImportError:
     x86 = None
 
-ENTRIES, NULL, FLAT_CODE, FLAT_DATA, FIRST = 16, 0x00, 0x08, 0x10, 3
+ENTRIES = 16
+NULL = 0x00
+FLAT_CODE = 0x08
+FLAT_DATA = 0x10
+FIRST = 3
 # Kinds of descriptors: data that is read-only, written, growing down; code that is read or not,
 # conforming; a gate, a task.
-DATA, CODE_KINDS, SYSTEM = (0x91, 0x93, 0x97), (0x99, 0x9B, 0x9F), (0x8C, 0x89, 0x82)
-PRESENT, LEVEL, WIDE, IN_PAGES = 0x80, 0x60, 0x4, 0x8
+DATA = (0x91, 0x93, 0x97)
+CODE_KINDS = (0x99, 0x9B, 0x9F)
+SYSTEM = (0x8C, 0x89, 0x82)
+PRESENT = 0x80
+LEVEL = 0x60
+WIDE = 0x4
+IN_PAGES = 0x8
 LOADS = {0: "8EC0", 2: "8ED0", 3: "8ED8", 4: "8EE0", 5: "8EE8"}
 PREFIXES = {0: "26", 2: "36", 3: "3E", 4: "64", 5: "65"}
 POPS = {0: "07", 2: "17", 3: "1F", 4: "0FA1", 5: "0FA9"}
 FAR_LOADS = {0: "C40B", 3: "C50B", 2: "0FB20B", 4: "0FB40B", 5: "0FB50B"}
-STACK, POINTER, INVALID_TASK = 0x90000, 0x50000, 10
+STACK = 0x90000
+POINTER = 0x50000
+INVALID_TASK = 10
 
 
 def descriptor(base: int, limit: int, access: int, flags: int) -> bytes:

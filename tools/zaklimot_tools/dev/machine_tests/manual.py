@@ -30,8 +30,12 @@ from .descriptors import FLAT_CODE, FLAT_DATA, descriptor
 
 
 NAMES = ("eax", "ecx", "edx", "ebx", "esp", "ebp", "esi", "edi")
-STACK, STACK_SEGMENT, DATA_SEGMENT = 0x8000, 0x4000, 0x2000
-FLAGS, INTERRUPT, TRAP = 0x0002, 0x0200, 0x0100
+STACK = 0x8000
+STACK_SEGMENT = 0x4000
+DATA_SEGMENT = 0x2000
+FLAGS = 0x0002
+INTERRUPT = 0x0200
+TRAP = 0x0100
 EVERY = ALL | CONTROL
 
 
@@ -246,7 +250,10 @@ def others() -> Iterator[Sample]:
 
 
 # A small segment, one that grows down, and code of 16 bits: what a case has beside flat segments.
-BASE, SMALL, DOWN, NARROW_CODE = 0x20000, 0x18, 0x20, 0x28
+BASE = 0x20000
+SMALL = 0x18
+DOWN = 0x20
+NARROW_CODE = 0x28
 SEGMENTS = bytes(8) + b"".join(
     (
         descriptor(0, 0xFFFFF, 0x9B, 0xC),
@@ -289,7 +296,9 @@ def limits() -> Iterator[Sample]:
 
 # What the flags are when an interrupt is asked for; where its gate leads; and where the stack
 # begins there.
-ASKED, GATED, TOP_OF_STACK = FLAGS | INTERRUPT | TRAP | CARRY, 0x23456, 0x90000
+ASKED = FLAGS | INTERRUPT | TRAP | CARRY
+GATED = 0x23456
+TOP_OF_STACK = 0x90000
 
 
 def _gate(kind: int, selector: int = FLAT_CODE) -> bytes:

@@ -10,7 +10,8 @@ from zaklimot_tools.core.words import number_to
 
 CHECKS = OF_MANUAL, OF_UNICORN, OF_DESCRIPTORS = ("manual", "unicorn", "descriptors")
 # So many instructions are compared with another processor's, if the user doesn't say, and at most.
-USUAL, MOST_CASES = 20_000, 10_000_000
+USUAL = 20_000
+MOST_CASES = 10_000_000
 # What jobs of the command line are functions of.
 _job = partial(later, "zaklimot_tools.dev.machine_tests.command")
 

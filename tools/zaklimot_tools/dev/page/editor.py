@@ -11,7 +11,8 @@ from zaklimot_tools.core.streams import to_read
 from zaklimot_tools.core.trouble import Trouble
 
 
-ESBUILD, PACKAGE = "esbuild", "libjs-codemirror"
+ESBUILD = "esbuild"
+PACKAGE = "libjs-codemirror"
 FOLDER = Path("/usr/share/javascript/codemirror")
 COPYRIGHT = Path("/usr/share/doc/libjs-codemirror/copyright")
 # The library, and its list of completions.

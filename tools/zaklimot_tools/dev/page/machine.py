@@ -25,17 +25,24 @@ from .making import kit_of, with_kit
 from .packing import about, in_base64, packed, unzipped
 
 
-PACKAGE, ARCHIVE = "libx86emu", "libx86emu_3.5.orig.tar.gz"
+PACKAGE = "libx86emu"
+ARCHIVE = "libx86emu_3.5.orig.tar.gz"
 SHA256 = "91da55f5da55017d5a80e2364de30f9520aa8df2744ff587a09ba58d6e3536c8"
 # Where apt finds it, with lists of its own: nothing of the system's is changed.
 SUITE = "http://deb.debian.org/debian bookworm main"
 KEYRING = Path("/usr/share/keyrings/debian-archive-keyring.gpg")
-MACHINE, PROGRAMS = TOP / "machine", TOP / "examples" / "machine"
+MACHINE = TOP / "machine"
+PROGRAMS = TOP / "examples" / "machine"
 # The notice of libx86emu's licence, which goes with the module.
 NOTICE = MACHINE / "NOTICE"
-CLANG, LINKER, APT, PATCH, ASSEMBLER = "clang", "wasm-ld", "apt-get", "patch", "nasm"
+CLANG = "clang"
+LINKER = "wasm-ld"
+APT = "apt-get"
+PATCH = "patch"
+ASSEMBLER = "nasm"
 # Seconds that a fetch may take, and a compilation.
-FETCHING, MAKING = 120, 300
+FETCHING = 120
+MAKING = 300
 MOST_ARCHIVE = 1 << 20
 # The parts of libx86emu that the machine has; of the others, machine/pc/library.c has what these
 # ask for.
@@ -53,7 +60,8 @@ TARGET = (
     "-flto",
 )
 # What is done with most instructions is to be fast; all else is to be small.
-USUAL, RARE = "-O3", "-Os"
+USUAL = "-O3"
+RARE = "-Os"
 OFTEN = (
     "decode",
     "usual",

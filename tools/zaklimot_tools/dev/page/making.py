@@ -29,7 +29,11 @@ MAGIC = b"\0asm\1\0\0\0"
 # A section for tools, and the name of the one that tells the kit.
 CUSTOM = 0
 KIT = b"kit"
-IMPORTS, TABLES, MEMORIES, EXPORTS, ELEMENTS = 2, 4, 5, 7, 9
+IMPORTS = 2
+TABLES = 4
+MEMORIES = 5
+EXPORTS = 7
+ELEMENTS = 9
 FUNCTION = 0
 # What the module exports besides the header's calls: its memory, where the heap begins, and how the
 # page takes memory from it.
@@ -282,7 +286,8 @@ class ModuleForm(NamedTuple):
 
 
 # The page's module, and the one of which C is made, whose calls guard it themselves.
-OF_PAGE, OF_C = ModuleForm(True, True), ModuleForm(False, False)
+OF_PAGE = ModuleForm(True, True)
+OF_C = ModuleForm(False, False)
 WIDE = ("ptr", "i64")
 
 

@@ -37,7 +37,9 @@ SCRIPT, STYLE, DATA, MADE = (
 )
 # From the page as built, where the documentation's pages lie.
 PAGES = "../docs/"
-ENTRY, FIRST_STYLE, TESTS = "main.js", "style.css", "tests"
+ENTRY = "main.js"
+FIRST_STYLE = "style.css"
+TESTS = "tests"
 ESBUILD = "esbuild"
 # The editor's parts in a page as built.
 EDITOR = tuple(

@@ -46,18 +46,22 @@ from .words import CHECKS, OF_HEAP, OF_MODULE, OF_OWN, OF_PAGE, OF_SCRIPTS, OF_S
 NAME = f"page/{PAGE.name}"
 PACKED = ("examples", "tutorial", "sections", "module")
 ANEW = f"`tools/vga-page make {NAME}` makes it anew"
-NODE, PACKAGE = "node", "nodejs"
+NODE = "node"
+PACKAGE = "nodejs"
 # The first version that tells of its tests in the form below.
 LEAST = 18
 # Seconds that a test may take, where much else runs beside it, and those of one in a browser.
-MOST_SECONDS, BROWSER_SECONDS = 300, 900
+MOST_SECONDS = 300
+BROWSER_SECONDS = 900
 TESTS = PAGE.parent / "tests"
 # What is done with the page in a browser: its check of all examples, what the tutorial says, what
 # a person does with keys and pointer, how long keys take, and each of its controls.
 OPENING, TUTORIAL, BROWSER = (TESTS / f"{name}.mjs" for name in ("opening", "tutorial", "browser"))
 USES = ("keeping", "writing", "typing", "panes", "sidebyside", "asking", "running")
 BY_HAND = [TESTS / f"{name}.mjs" for name in USES]
-CHROMIUM, FIREFOX, WEBKIT = "chromium", "firefox", "webkit"
+CHROMIUM = "chromium"
+FIREFOX = "firefox"
+WEBKIT = "webkit"
 # The browsers: the packages of Debian that each needs, and a package's programs, of which one is
 # in the path.
 ENGINES: dict[str, dict[str, Sequence[str]]] = {
@@ -75,7 +79,9 @@ SCRIPT = re.compile(r'<script type="module">\n(.*?)</script>', re.S)
 REPORTER = "spec"
 COUNT = re.compile(r"^(?:\x1b\[[0-9]+m)*ℹ (pass|fail|skipped|todo|cancelled) ([0-9]+)", re.M)
 # Where the tests find the module, the page as built, and a module whose memory doesn't grow.
-MODULE, BUILT, SMALL = "ZAKLIMOT_MODULE", "ZAKLIMOT_PAGE", "ZAKLIMOT_SMALL_MODULE"
+MODULE = "ZAKLIMOT_MODULE"
+BUILT = "ZAKLIMOT_PAGE"
+SMALL = "ZAKLIMOT_SMALL_MODULE"
 # So much memory the small module has: enough for two cards, and not for three.
 SMALL_MEMORY = 16 * MEBIBYTE
 # What a run of the program may take.

@@ -58,7 +58,9 @@ MACHINE = "x86_64-linux"
 MODULES = "zaklimot_tools"
 # The file beside the archive, which `sha256sum --check` reads.
 SUM = "sha256"
-EXECUTABLE, PLAIN, RUN = 0o100, 0o644, 0o755
+EXECUTABLE = 0o100
+PLAIN = 0o644
+RUN = 0o755
 LEVEL = 9
 
 
@@ -86,7 +88,8 @@ PACKAGE_PARTS = tuple(
     f"tools/{MODULES}/{name}" for name in ("__init__.py", "starting.py", *PARTS[:-1])
 )
 # The front page of a release is this one, and the repository's lies beside the other pages.
-PAGE, FRONT = "tools/zaklimot_tools/dev/release/README.md", "README.md"
+PAGE = "tools/zaklimot_tools/dev/release/README.md"
+FRONT = "README.md"
 # What of the commit goes into a release, where it lies in the repository.
 PATHS = (
     "CHANGELOG.md",

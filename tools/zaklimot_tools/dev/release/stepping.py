@@ -15,7 +15,8 @@ from zaklimot_tools.steps.library import NAMED, library_path
 from .words import COUNT, STEPS
 
 # So many commands work at a time, and so many bytes have all files at most.
-JOBS, MOST_BYTES = 2, 60_000_000
+JOBS = 2
+MOST_BYTES = 60_000_000
 TOOL = TOP / "tools" / "vga-steps"
 # What of the commit lies beside the elements, and where.
 PAGE = "docs/STEPS.md"

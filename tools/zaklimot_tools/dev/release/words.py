@@ -12,7 +12,8 @@ from zaklimot_tools.dev.library.words import PROCESSORS
 
 
 # The archives of the C file, and of single-step tests, have these names.
-PORTABLE, STEPS = "portable", "steps"
+PORTABLE = "portable"
+STEPS = "steps"
 # How many single-step tests of each kind a release has.
 COUNT = 10_000
 # What jobs of the command line are functions of.

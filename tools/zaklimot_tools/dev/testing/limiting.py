@@ -17,7 +17,8 @@ from zaklimot_tools.core.processes import IS_LINUX, adopt_orphans, end_children
 
 # So many seconds may a test take, and so much memory each process of it. A class of tests that
 # needs more has `most_seconds` or `most_memory`.
-MOST_SECONDS, MOST_MEMORY = 300, 1 << 31
+MOST_SECONDS = 300
+MOST_MEMORY = 1 << 31
 
 
 Hook = TypeVar("Hook", bound=Callable[..., Iterator[None]])

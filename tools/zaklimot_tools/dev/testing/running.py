@@ -35,7 +35,8 @@ HERE = TOOLS / "tests"
 TESTED = "ZAKLIMOT_TESTED_PROGRAM"
 BUILT = "ZAKLIMOT_PROGRAM_IS_BUILT"
 # So many tests run at a time at most, and so many seconds may all of them take.
-MOST_WORKERS, MOST_SECONDS = 4, 7200
+MOST_WORKERS = 4
+MOST_SECONDS = 7200
 # What the tests may print and say.
 MOST_OUTPUT = 64 * MEBIBYTE
 # What runs the tests. Debian's Python has both where Debian's packages are, and this one need not.

@@ -14,7 +14,8 @@ from zaklimot_tools.core.trouble import AGREED as PASSED, DIFFERED as FAILED, Tr
 # The folders that have Python, and the settings of all but flake8, which finds its own. The package
 # for Python has settings for its types.
 FOLDERS = ("tools", "bindings", "bench", "examples", "fonts")
-SETTINGS, BINDINGS = "tools/pyproject.toml", "bindings/python/pyproject.toml"
+SETTINGS = "tools/pyproject.toml"
+BINDINGS = "bindings/python/pyproject.toml"
 # Debian's programs lie here. Others of these names, as pip installs them, may judge otherwise.
 SYSTEM = "/usr/bin"
 MOST_SECONDS = 600
