@@ -237,8 +237,34 @@ class Scripts(Made):
             status, output, said = steps("script", self.files[kind], 3)
             self.assertEqual((status, said), (0, ""))
             lines = output.splitlines()
-            self.assertTrue(lines[0].startswith("; "))
+            # The name ends with the number.
+            self.assertRegex(lines[0], "^; .*: 3$")
             self.assertRegex(lines[-1], f"^{ending}$")
+
+    def test_the_latches_come_from_the_last_offset_that_is_not_listed(self) -> None:
+        for offsets, address in (
+            ([], "AFFFF"),
+            ([3, 0xFFFD], "AFFFF"),
+            ([0xFFFE, 0xFFFF], "AFFFD"),
+            ([0xFFFD, 0xFFFF], "AFFFE"),
+        ):
+            planes = [[offset, 1, 2, 3, 4] for offset in offsets]
+            state = {"latches": [5, 6, 7, 8], "planes": planes}
+            lines = list(text_lines({**GOOD, INITIAL: state}))
+            self.assertEqual([line for line in lines if line[:3] == "get"], [f"get {address}"])
+            self.assertIn(f"put {address} 08", lines)
+            self.assertIn(f"put {address} 00", lines)
+
+    def test_the_clock_is_reached_in_as_few_advances_as_may_be(self) -> None:
+        for dots, advances in (
+            (0, []),
+            (5, [5]),
+            (16_777_216, [16_777_216]),
+            (2 * 16_777_216 + 1, [16_777_216, 16_777_216, 1]),
+        ):
+            lines = text_lines({**GOOD, "reach": {"dots": dots}})
+            found = [line for line in lines if line.startswith("advance")]
+            self.assertEqual(found, [f"advance {number}" for number in advances])
 
     def test_cycles_read_the_state(self) -> None:
         """What can be read by ports and addresses is as expected, step by step."""
@@ -435,6 +461,7 @@ class Files(Folder):
         def changed(**members: Any) -> Element:
             return {**GOOD, **members}
 
+        read = {**{name: GOOD[name] for name in GOOD if name != "put"}, "get": [0xA0005]}
         hold(
             self,
             lambda element: fault_of(element).partition(":")[0],
@@ -450,6 +477,14 @@ class Files(Folder):
                 (changed(put=[1 << 32, 0]), "its step put has not the numbers that it takes"),
                 (changed(put=[True, 0]), "its step put has not the numbers that it takes"),
                 (changed(refused="Nothing"), "there is no refusal Nothing"),
+                (changed(refused="NotDecoded", answer=5), "its answer is none of the step put"),
+                ({**read, "answer": 5}, ""),
+                (read, "its answer is none of the step get"),
+                ({**read, "refused": "NotDecoded"}, ""),
+                (
+                    {**read, "refused": "NotDecoded", "answer": 5},
+                    "its answer is none of the step get",
+                ),
                 (changed(answer=5), "its answer is none of the step put"),
                 (changed(reach=[]), "its reach is no object"),
                 (changed(reach={"dots": -1}), "its reach has no such member, or one out of range"),
@@ -464,6 +499,14 @@ class Files(Folder):
         state: dict[str, Any] = GOOD["initial"]
         parts: tuple[dict[str, Any], ...] = (
             {"misc": 256},
+            {"seq_index": 8},
+            {"gfx_index": 16},
+            {"crtc_index": 32},
+            {"attr_index": 64},
+            {"attr_is_data": 2},
+            {"dac_index": 256},
+            {"dac_component": 3},
+            {"dac_mask": 256},
             {"seq": [0] * 4},
             {"gfx": [0, 0, 0, 0, 0, 0, 16, 0, 0]},
             {"planes": [[1, 2, 3, 4]]},
