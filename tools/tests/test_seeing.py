@@ -425,6 +425,12 @@ class Found(Seen):
             told = self.done("find", trace, "HI").splitlines()[1]
             self.assertEqual(told.split(), ["0.080", "24", "0", "HI"], size)
 
+    def test_a_word_across_two_blocks(self) -> None:
+        # The attribute of the cell before, and a letter in the next block of 256 bytes.
+        word = b"0 int 3 0 0 0\n20000 w p 3C9 7 1\n40000 w m B80FF 4807 2\n"
+        told = self.done("find", self.write("across", word), "H").splitlines()[1]
+        self.assertEqual(told.split(), ["0.040", "1", "48", "H"])
+
     def test_many_places(self) -> None:
         text = b"".join(b"%d int 0E41 7 0 0\n" % (20_000 * at) for at in range(1, 9))
         trace = self.write("many", b"0 int 3 0 0 0\n" + text)
