@@ -309,7 +309,8 @@ class Files(Seen):
         lines = (self.folder / "a.bdf").read_text().splitlines()
         self.assertEqual((lines[0], lines[-1]), ("STARTFONT 2.1", "ENDFONT"))
         at = lines.index("STARTCHAR U+0041")
-        self.assertEqual(lines[at + 1], "ENCODING 65")
+        # 8 dots are half of 16 lines, in thousandths.
+        self.assertEqual(lines[at + 1 : at + 4], ["ENCODING 65", "SWIDTH 500 0", "DWIDTH 8 0"])
         bitmap = "".join(lines[at + 6 : at + 22])
         self.assertEqual(bytes.fromhex(bitmap), glyphs[16 * 0x41 : 16 * 0x42])
         codes = [int(line.split()[1]) for line in lines if line.startswith("ENCODING ")]
