@@ -358,6 +358,12 @@ class Listings(Fake):
         )
         self.assertEqual(self.run_script(path=self.write("s.bin", b"VGAS\1\x0b"))[2], "")
 
+    def test_a_thousand_reasons_are_told_once_and_others_each_time(self) -> None:
+        ports = (*range(0x400, 0x7E9), 0x400, 0x7E8)
+        output = self.run_text("".join(f"in {port:X}\n" for port in ports))[1]
+        told = [output.count(f" decodes port {port:X}.\n") for port in (0x400, 0x7E7, 0x7E8)]
+        self.assertEqual(told, [1, 1, 2])
+
     def test_what_is_lacking_for_a_build(self) -> None:
         self.assertIn("## Build it\n", (TOP / "README.md").read_text("utf-8"))
         none = self.folder / "none"
