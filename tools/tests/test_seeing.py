@@ -20,9 +20,10 @@ from zaklimot_tools.trace.finding import Finder
 from zaklimot_tools.trace.rebuilding import rebuilt_as_told
 from zaklimot_tools.trace.step import TraceStep
 from zaklimot_tools.trace.told import Told, state_asked
-from zaklimot_tools.trace.trace import Call
+from zaklimot_tools.trace.trace import SCREEN, Call
 from zaklimot_tools.trace.walking import Item, Question, Walk
 
+from .test_trace import qemu
 from .tools import (
     EXAMPLES,
     PROGRAM,
@@ -107,6 +108,19 @@ class Text(Seen):
             self.run_command("text", "-", "--picture", "1"),
             "--picture reads the trace twice",
         )
+
+    def test_screens_that_record_took(self) -> None:
+        # A machine is asked six times for a screen, and writes meanwhile; the last screen is cut.
+        words = ("3c4 302", "3c4 204", "3ce 1005", "3ce e06", "3ce ff08", "3d4 4f01")
+        text = qemu("write 3c2 67 1") + b"".join(qemu(f"write {one} 2") for one in words)
+        for at, marks in enumerate((1, 5, 1, 0)):
+            text += qemu(f"write b800{2 * at} {0x41 + at:x} 1", "vga-lowmem")
+            text += marks * (SCREEN + b"\n")
+        log = self.write("log", text)
+        for screen, wanted in (("1", "A"), ("2", "ABC")):
+            self.assertEqual(self.done("text", log, "--screen", screen), f"{wanted}\n")
+        told = "`record` took 2 of its screens, and no screen 3"
+        hold_undone(self, self.run_command("text", log, "--screen", "3"), told)
 
     def test_pages_attributes_and_graphics(self) -> None:
         lines = self.done("text", self.calls, "--at", "1.5").splitlines()
