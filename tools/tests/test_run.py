@@ -145,6 +145,8 @@ RUNS: list[tuple[str, str, int, list[str]]] = [
         1,
         ["t.vga:1: step 1: IN 60 answers E1 NotDecoded, and no refusal is expected\n"],
     ),
+    # Registers of a call, in any order and in letters of either kind.
+    ("int ax=3 ; = DX=0000 AX=0003\n", "", 0, ["1 of 1 answers as expected\n"]),
     # Answers that are expected of no step.
     *(
         (text, "", 2, [f"t.vga:{line}: no step stands on this line, so nothing answers "])
