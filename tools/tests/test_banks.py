@@ -61,6 +61,9 @@ def shown(banks: Banks) -> list[str]:
 class Programs(unittest.TestCase):
     def test_registers_are_those_of_the_program(self) -> None:
         scripts = {f"seed {seed}": list(steps_of(seed)) for seed in range(12)}
+        # While the palette is looked at, it isn't written; mode control is.
+        looked_at = ["in 3BA", "out 3C0 25", "out 3C0 3F", "out 3C0 30", "out 3C0 0C"]
+        scripts["the palette is looked at"] = looked_at
         texts = {
             name: "".join(f"{line}\nshow regs\n" for line in lines).encode()
             for name, lines in scripts.items()
