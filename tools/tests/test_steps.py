@@ -242,12 +242,13 @@ class Scripts(Made):
             self.assertRegex(lines[-1], f"^{ending}$")
 
     def test_the_latches_come_from_the_last_offset_that_is_not_listed(self) -> None:
-        for offsets, address in (
+        cases: list[tuple[list[int], str]] = [
             ([], "AFFFF"),
             ([3, 0xFFFD], "AFFFF"),
             ([0xFFFE, 0xFFFF], "AFFFD"),
             ([0xFFFD, 0xFFFF], "AFFFE"),
-        ):
+        ]
+        for offsets, address in cases:
             planes = [[offset, 1, 2, 3, 4] for offset in offsets]
             state = {"latches": [5, 6, 7, 8], "planes": planes}
             lines = list(text_lines({**GOOD, INITIAL: state}))
@@ -256,12 +257,13 @@ class Scripts(Made):
             self.assertIn(f"put {address} 00", lines)
 
     def test_the_clock_is_reached_in_as_few_advances_as_may_be(self) -> None:
-        for dots, advances in (
+        cases: list[tuple[int, list[int]]] = [
             (0, []),
             (5, [5]),
             (16_777_216, [16_777_216]),
             (2 * 16_777_216 + 1, [16_777_216, 16_777_216, 1]),
-        ):
+        ]
+        for dots, advances in cases:
             lines = text_lines({**GOOD, "reach": {"dots": dots}})
             found = [line for line in lines if line.startswith("advance")]
             self.assertEqual(found, [f"advance {number}" for number in advances])
