@@ -337,8 +337,10 @@ class Files(Seen):
             self.run_command("font", self.calls, "a.psf"),
             "shows graphics then, which have no glyphs: --height gives them one",
         )
-        for number, begin in ((1, 0x4000), (4, 0x2000), (7, 0xE000)):
+        for number, begin in ((0, 0), (1, 0x4000), (4, 0x2000), (7, 0xE000)):
             writes = b"0 w p 3C4 0402 2\n0 w p 3C4 0604 2\n0 w p 3CE 0406 2\n0 w p 3CE FF08 2\n"
+            # Characters have map 2, which is none of those that are asked for.
+            writes += b"0 w p 3C4 0A03 2\n"
             byte = f"0 w m {0xA0000 + begin + 32 * 0x41 + 1:X} A5 1\n".encode()
             trace = self.write("map", b"0 w p 3C2 67 1\n" + writes + byte)
             words = ("--map", str(number), "--height", "2")
@@ -392,6 +394,14 @@ class Files(Seen):
         )
         bits = "".join(f"{line:08b}" for line in glyph)
         self.assertEqual("".join(map(str, row)), bits)
+
+    def test_blinking_text_is_the_same_on_each_page(self) -> None:
+        # Without a cursor, which is on one page alone.
+        cells = b"".join(b"2 w m %X 9C41 2\n" % (0xB8000 + 0x1000 * page) for page in range(8))
+        trace = self.write("blinking", b"0 int 3 0 0 0\n1 int 0100 0 2000 0\n" + cells)
+        self.done("screen", trace, "--pages", self.folder / "pages")
+        pages = [png_rows(path.read_bytes()) for path in (self.folder / "pages").iterdir()]
+        self.assertEqual((len(pages), pages), (8, pages[:1] * 8))
 
     def test_planes_of_256_colours(self) -> None:
         trace = self.write("mode13", b"0 int 13 0 0 0\n1 w m A0002 0C 1\n")
