@@ -97,6 +97,14 @@ class Runs(Folder):
             ],
         )
 
+    def test_one_file_that_differs_counts_wherever_it_stands(self) -> None:
+        words = argparse.Namespace(vga=None, fonts=str(FONTS), first=1, jobs=2, file=["a", "b"])
+        for statuses, wanted in (((0, 0), 0), ((1, 0), 1), ((0, 1), 1)):
+            given = [Done(status, b"", b"") for status in statuses]
+            with mock.patch.object(confirming, "in_children", return_value=given):
+                status = confirming.confirm(words, Progress(False))
+            self.assertEqual(status, wanted, statuses)
+
     def test_the_program_that_is_named_runs_them(self) -> None:
         program = self.program("other", "raise SystemExit('oh')")
         file = STEPS_EXAMPLES / "clock.json.gz"

@@ -14,7 +14,14 @@ from unittest import mock
 from xml.etree import ElementTree
 
 from zaklimot_tools.steps.asking import asked_adapter
-from zaklimot_tools.steps.checking import BranchCounts, BranchName, Branches, HeldFile, ranked
+from zaklimot_tools.steps.checking import (
+    BranchCounts,
+    BranchName,
+    Branches,
+    HeldFile,
+    _junit_text,
+    ranked,
+)
 from zaklimot_tools.steps.parts import FINAL
 from zaklimot_tools.steps.reading import read_elements
 
@@ -364,6 +371,19 @@ class Checking(Made):
         wanted = {**GOOD, FINAL: {"planes": [[place[0], 0, 0, 0, 0] for place in places]}}
         held.judge(wanted, {FINAL: {"planes": places}}, 0)
         self.assertEqual(len([line for line in held.lines() if line.startswith("    planes")]), 8)
+
+    def test_as_many_differences_stand_in_a_report_for_test_runners(self) -> None:
+        # Nine entries of the DAC have another blue.
+        element = next(iter(read_elements(str(STEPS_EXAMPLES / "dac-writes.json.gz"))))
+        colours = [[entry, 1, 1, 1] for entry in range(9)]
+        wanted = {**element, FINAL: {**element[FINAL], "colours": [[*one[:3], 2] for one in colours]}}
+        held = HeldFile("file")
+        held.judge(wanted, {FINAL: {**wanted[FINAL], "colours": colours}}, 4)
+        cases = ElementTree.fromstring(_junit_text([held]).partition("\n")[2])
+        text = next(one.text for one in cases.iter("failure")) or ""
+        assert held.first is not None
+        told_of = f"the first of the file that differs: element 4, {element['name']}"
+        self.assertEqual(text.split("\n")[-9:], [told_of, *held.first.differences[:8]])
 
     def test_refusals_may_be_left_out(self) -> None:
         path = self.files["other-ports"]
