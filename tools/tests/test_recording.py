@@ -894,6 +894,18 @@ class Keeping(Folder):
             kept.close()
         self.assertEqual(gzip.decompress((self.folder / "trace.gz").read_bytes()), b"w p 3C0\n")
 
+    def test_polls_are_counted_anew_in_each_frame(self) -> None:
+        line = b"1@%d.000000:vga_std_read_io addr 0x3da val 0x0 size 1\n"
+        # Two, three and one, each so many at one time.
+        lines = b"".join(line % second for second in (1, 1, 2, 2, 2, 3))
+        with open(self.write("log", lines), "rb") as log:
+            into = Parts(self.folder)
+            keeper = Keeper(log, into)
+            with mock.patch.object(keeping, "CHUNK", len(line % 1)):
+                keeper.run()
+            into.close()
+        self.assertEqual(keeper.frame_polls, 3)
+
     def test_parts_that_roll(self) -> None:
         lines = b"".join(b"line %d\n" % number for number in range(100))
         with mock.patch.object(parts, "PART_LINES", 200):

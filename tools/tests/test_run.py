@@ -260,6 +260,12 @@ class Listings(Fake):
         for expected, is_met in rows:
             self.assertEqual(is_as_expected(answer, expected, "in 3CC"), is_met, expected)
 
+    def test_a_frame_of_ragged_rows_is_among_the_pictures(self) -> None:
+        rows = (("ragged", "FRAME", True), ("ok", "OUT 3C2 1", False))
+        for answer, words, is_shown in rows:
+            row = Row(Answer(1, 1, answer), words)
+            self.assertEqual(chosen("pictures")(row), is_shown, words)
+
     def test_steps_of_bytes_of_which_some_are_printed(self) -> None:
         self.begin_program("if sys.argv[1] == 'dis': print('IN 3CC'); sys.exit(1)\n")
         path = self.write("s.bin", b"VGAS\x01\nin\nin\n")

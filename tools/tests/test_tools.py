@@ -26,6 +26,7 @@ from zaklimot_tools.core.processes import (
     captured,
     run,
     run_command,
+    said_last,
     started,
 )
 from zaklimot_tools.core.progress import DELAY, Progress
@@ -416,6 +417,11 @@ class Lines(Folder):
         with mock.patch.dict("os.environ", COLUMNS="10"):
             Progress().tell("r: a long name")
         self.assertEqual(self.terminal.getvalue(), "\rr: a long")
+
+    def test_the_end_of_what_a_program_said_is_told_as_one_line(self) -> None:
+        # Of 609 bytes the last 600.
+        path = Path(self.write("said", 600 * "a" + "\nthe end\n"))
+        self.assertEqual(said_last(path), 591 * "a" + " the end")
 
     def test_phases_tell_the_crate_that_is_proved(self) -> None:
         told: list[str] = []
