@@ -376,9 +376,10 @@ class Checking(Made):
         # Nine entries of the DAC have another blue.
         element = next(iter(read_elements(str(STEPS_EXAMPLES / "dac-writes.json.gz"))))
         colours = [[entry, 1, 1, 1] for entry in range(9)]
-        wanted = {**element, FINAL: {**element[FINAL], "colours": [[*one[:3], 2] for one in colours]}}
+        final = {**element[FINAL], "colours": [[*one[:3], 2] for one in colours]}
+        wanted = {**element, FINAL: final}
         held = HeldFile("file")
-        held.judge(wanted, {FINAL: {**wanted[FINAL], "colours": colours}}, 4)
+        held.judge(wanted, {FINAL: {**final, "colours": colours}}, 4)
         cases = ElementTree.fromstring(_junit_text([held]).partition("\n")[2])
         text = next(one.text for one in cases.iter("failure")) or ""
         assert held.first is not None
