@@ -14,7 +14,7 @@ from html.parser import HTMLParser
 from pathlib import Path
 from typing import Any, Mapping, Optional
 from unittest import mock
-from urllib.parse import unquote
+from urllib.parse import unquote, urljoin
 
 from zaklimot_tools.core.trouble import Trouble, Wrong
 from zaklimot_tools.core.version import HEADER, calls_of
@@ -627,6 +627,22 @@ class Opened(Fake):
         )
         pages = unquote(page_data(self.made.read_text("utf-8"))["pages"])
         self.assertEqual((self.folder / pages).resolve(), DOCS)
+
+    def test_links_of_names_that_mean_something_in_an_address(self) -> None:
+        for name, quoted in (
+            ("a b", "a%20b"),
+            ("a#b", "a%23b"),
+            ("100%", "100%25"),
+            ("a%20b", "a%2520b"),
+            ("a?b", "a%3Fb"),
+        ):
+            docs = self.folder / name / "docs"
+            docs.mkdir(parents=True)
+            with mock.patch.object(debugging, "DOCS", docs):
+                self.assertEqual(self.debugged(self.script, made=str(self.made))[0], 0)
+            pages = page_data(self.made.read_text("utf-8"))["pages"]
+            self.assertEqual(pages, f"{quoted}/docs/")
+            self.assertEqual(urljoin(self.made.as_uri(), pages), f"{docs.as_uri()}/")
 
     def test_a_page_that_is_not_there_or_another(self) -> None:
         built = self.folder / "built.html"
