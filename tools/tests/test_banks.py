@@ -95,6 +95,23 @@ class Told(unittest.TestCase):
         opened = ("int ax=3", "outw 3d4 0e11", "outw 3d4 0000")
         self.assertNotEqual(self.after(*opened).speed(), usual)
 
+    def test_a_read_of_input_status_1_makes_the_next_write_an_index(self) -> None:
+        # A word is read at its port and at the next one.
+        for misc, step, index in (
+            (0x67, "in 3da", 7),
+            (0x67, "inw 3da", 7),
+            (0x67, "inw 3d9", 7),
+            (0x66, "inw 3b9", 7),
+            (0x67, "in 3d9", 5),
+            (0x67, "in 3db", 5),
+            (0x67, "inw 3db", 5),
+            (0x67, "inw 3d8", 5),
+            (0x67, "inw 3b9", 5),
+            (0x66, "inw 3d9", 5),
+        ):
+            registers = self.after(f"out 3c2 {misc:x}", "out 3c0 5", step, "out 3c0 7")
+            self.assertEqual(registers.banks.attr.index, index, (misc, step))
+
     def test_a_mode_set_makes_the_next_write_an_index(self) -> None:
         registers = self.after("out 3c0 5", "int ax=3", "out 3c0 7")
         self.assertEqual((registers.banks.is_data, registers.banks.attr.index), (True, 7))
