@@ -12,11 +12,13 @@ import unittest
 from collections import Counter
 from itertools import chain, product
 from pathlib import Path
-from typing import Iterator, NamedTuple, Sequence
+from typing import Iterator, NamedTuple, Optional, Sequence
 
-from zaklimot.format import Picture, encode, parse_text
+from zaklimot.format import Picture, Step, encode, parse_text
+from zaklimot_tools.core.trouble import Trouble
 from zaklimot_tools.images.png import write_png
 from zaklimot_tools.images.reading import Image
+from zaklimot_tools.picture import steps
 from zaklimot_tools.picture.asked import Fewer
 from zaklimot_tools.picture.cells import FONTS_AT, Chooser, Chosen
 from zaklimot_tools.picture.colours import (
@@ -33,10 +35,22 @@ from zaklimot_tools.picture.colours import (
 from zaklimot_tools.picture.words import main
 from zaklimot_tools.picture.mode import MODES
 from zaklimot_tools.picture.screen import MASKS, least_writes
+from zaklimot_tools.picture.steps import Item, Part, write_script
 from zaklimot_tools.script.words import FONTS
 
 from .test_images import png
-from .tools import EXAMPLES, Folder, call, ended, hold, png_rows, ppm, refused, run_texts
+from .tools import (
+    EXAMPLES,
+    Folder,
+    call,
+    ended,
+    hold,
+    patched,
+    png_rows,
+    ppm,
+    refused,
+    run_texts,
+)
 
 
 sys.path.insert(0, str(EXAMPLES))
@@ -381,6 +395,50 @@ class Drawing(Folder):
         ways = "--nearest takes the nearest of 16, --dither mixes them"
         self.assertEqual(
             refused(indexed, MANY, 16, Fewer.REFUSED, "image"), f"image: {told}: {ways}"
+        )
+
+
+class Written(unittest.TestCase):
+    """What is written is a script, or nothing is."""
+
+    # Five bytes of a header, four of the write and one of the frame; and the same as a text.
+    WRITE = (Item(Step("out", (0x3C4, 2))), Item(Step("frame", ())))
+    BYTES = b"VGAS\1\1\xc4\3\2\x0b"
+    TEXT = b"; a\nout 3C4 02\nframe ; = b\n"
+    # Each call has eleven bytes in a script, and nine in a text.
+    CALLS = (*[Item(Step("int", (0, 0, 0, 0)))] * 8, Item(Step("frame", ())))
+
+    def written(
+        self, items: Sequence[Item], is_text: bool, most_bytes: int, most_steps: int = 9
+    ) -> Optional[bytes]:
+        """What is written of items; nothing where it would be too long."""
+        stream = io.BytesIO()
+        most = {"MOST_BYTES": most_bytes, "MOST_STEPS": most_steps}
+        try:
+            with patched(steps, most):
+                write_script(stream, [Part("a", items)], "b", is_text)
+        except Trouble as trouble:
+            told = f"the script would be longer than {most_bytes} bytes or steps"
+            self.assertEqual((str(trouble), stream.getvalue()), (told, b""))
+            return None
+        return stream.getvalue()
+
+    def test_no_script_that_is_too_long(self) -> None:
+        calls = b"; a\n" + b"int ax=0\n" * 8 + b"frame ; = b\n"
+        hold(
+            self,
+            self.written,
+            (
+                (self.WRITE, False, 10, self.BYTES),
+                (self.WRITE, False, 9, None),
+                (self.WRITE, True, 27, self.TEXT),
+                (self.WRITE, True, 26, None),
+                # The text is read into a script, which must not be longer either.
+                (self.CALLS, True, 94, calls),
+                (self.CALLS, True, 93, None),
+                (self.CALLS, True, 94, 9, calls),
+                (self.CALLS, True, 94, 8, None),
+            ),
         )
 
 
