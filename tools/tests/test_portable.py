@@ -174,6 +174,16 @@ class Compiled(Cache):
         while portable._in_use:
             os.close(portable._in_use.pop())
 
+    def test_what_else_the_cache_has_stays(self) -> None:
+        # The library, which is compiled beside it, and what others keep there.
+        kept = [f"of-library/{portable.LIBRARY_NAME}", "others/file", "toolchain.tar"]
+        for name in (*kept, "of-another-compiler/vga"):
+            self.write(f"cache/zaklimot/{name}", "")
+        path, _ = self.found()
+        place = path.parent.name
+        wanted = [place, f"{place}/vga", "of-library", "others", *kept]
+        self.assertEqual(self.left(), sorted(wanted))
+
     def test_two_runs_at_once(self) -> None:
         begun = self.folder / "begun"
         os.environ["CC"] = self.compiler("slow", f"echo 1 > {begun}; sleep 4", "echo ran")
