@@ -742,6 +742,22 @@ class RealTime(Folder):
             ),
         )
 
+    def test_what_is_written_as_a_frame_ends_shows_in_the_next(self) -> None:
+        # 95 characters of 8 dots in 265 lines, of 25,175,000 dots a second, last 8 milliseconds.
+        dots = 95 * 8 * 265
+        shape = [
+            TraceStep(OUT, 0x3C2, 0x63),
+            *(TraceStep(OUTW, *word) for word in ((0x3C4, 0x0101), (0x3D4, 0x5A00))),
+            *(TraceStep(OUTW, 0x3D4, word) for word in (0x0706, 0x0107)),
+        ]
+        times = (0, 7999, 8000, 15999, 24000, 32000)
+        writes = [TraceStep(PUT, 0xA0000, number, time) for number, time in enumerate(times)]
+        steps = Clocked(1).steps([*shape, *writes])
+        frame = (FRAME, 0)
+        told = [step[:2] if step.opcode in (ADVANCE, FRAME) else step.value for step in steps]
+        wanted = [0, 1, frame, 2, 3, frame, 4, (ADVANCE, dots), frame, 5]
+        self.assertEqual(told[len(shape) :], wanted)
+
     def test_long_silences_are_cut_and_told(self) -> None:
         frames, clocked = self.frames(1, (), 1.2, 701.2, 702.5)
         self.assertEqual(clocked.shortened, 1)
