@@ -294,6 +294,19 @@ class Listings(Fake):
             ),
         )
 
+    def test_words_that_fit_in_the_column_stand_whole(self) -> None:
+        # The column is as wide as its heading, or as the longest words; but at most 47.
+        for length, told in (
+            (17, f"GET {'0' * 13}   E6"),
+            (18, f"GET {'0' * 14}  E6"),
+            (19, f"GET {'0' * 15}  E6"),
+            (47, f"GET {'0' * 43}  E6"),
+            (48, f"GET {'0' * 41}..  E6"),
+            (60, f"GET {'0' * 41}..  E6"),
+        ):
+            output = self.run_text(f"get {'0' * (length - 4)}\n")[1]
+            self.assertEqual(output.splitlines()[1], f"     1      1  {told}", length)
+
     def test_scripts_and_fonts_of_any_name(self) -> None:
         listed = self.run_script()
         pipe = self.folder / "pipe"
