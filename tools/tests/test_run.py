@@ -805,6 +805,16 @@ class Several(Fake):
             [(1, 0, False), (0, 0, True), (2, 1, False)],
         )
 
+    def test_text_goes_to_standard_error_where_machines_read_the_output(self) -> None:
+        text = self.run_script(path=str(self.tests))[1]
+        self.assertTrue(text.endswith("2 scripts, 1 differs\n"))
+        done = self.run_script("--junit", "-", path=str(self.tests))
+        self.assertEqual((done[0], done[2]), (1, text))
+        suite = ElementTree.fromstring(done[1].encode())
+        self.assertEqual((suite.tag, suite.get("tests"), len(suite)), ("testsuite", "2", 2))
+        done = self.run_script("--json", "-", path=str(self.tests))
+        self.assertEqual((done[0], done[2], len(json.loads(done[1]))), (1, text, 2))
+
     def test_the_program_is_built_or_tried_where_it_is_lacking(self) -> None:
         # A toolchain that notes what it is asked for, builds the program once that is there, and
         # tries none to its end.
