@@ -24,7 +24,7 @@ from zaklimot_tools.steps.confirming import MOST_TOLD
 from zaklimot_tools.steps.kinds import KINDS
 from zaklimot_tools.steps.library import load
 from zaklimot_tools.steps.parts import BDA, BEAM, FINAL, INITIAL, ORDER, Element
-from zaklimot_tools.steps.readback import readback_lines
+from zaklimot_tools.steps.readback import readback_lines, state_read
 from zaklimot_tools.steps.reading import STEPS, fault_of, read_elements
 from zaklimot_tools.steps.rules import RULES, branches_shown
 from zaklimot_tools.steps.scripts import confirming, reached, text_lines
@@ -574,6 +574,20 @@ class Files(Folder):
             lines = readback_lines({**GOOD, FINAL: state})
             indexes = [line for line in lines if line.startswith("out 3C0 ")]
             self.assertEqual(indexes, [f"out 3C0 {index | shown:02X}" for index in range(21)])
+
+    def test_what_no_cycle_reads_is_left_out_of_a_state(self) -> None:
+        hidden: Element = {
+            "attr_is_data": 0,
+            "dac_component": 2,
+            "dac_waiting": [1, 2],
+            "sums": [0] * 5,
+            "beam": dict.fromkeys(BEAM, 0),
+            "bda": dict.fromkeys(BDA, 0),
+        }
+        # The mask of the DAC, its index, and the three components of an entry.
+        read: Element = {"dac_mask": 1, "dac_index": 2, "colours": [[9, 3, 4, 5]]}
+        wanted = {"dac_mask": 6, "dac_index": 7, "colours": [[9, 8, 10, 11]]}
+        self.assertEqual(state_read({**read, **hidden}, [6, 7, 8, 10, 11]), wanted)
 
     def test_a_byte_beside_the_places_of_an_element_is_told(self) -> None:
         place = GOOD[FINAL]["planes"][0]
