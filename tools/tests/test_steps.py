@@ -12,6 +12,8 @@ import sys
 import tempfile
 import unittest
 import zlib
+from collections import Counter
+from itertools import product
 from pathlib import Path
 from typing import Any, Iterator, Optional
 from unittest import mock
@@ -127,6 +129,61 @@ class Making(Made):
         status, output, _ = steps("kinds", "--parts")
         self.assertEqual((status, [line.split()[0] for line in output.splitlines()]), (0, [*KINDS]))
         self.assertIn("(misc, seq, gfx, latches, planes)", output)
+
+
+class Clock(Made):
+    """Elements of the clock come to the corners of a frame."""
+
+    # So many elements are looked at. About every other one ends at one of nine corners, so each of
+    # these comes some sixteen times; others come seldom.
+    MANY = 300
+    LEAST_OF_ENDS = 9
+    LEAST = 4
+
+    @staticmethod
+    def ends(element: Element) -> tuple[int, int, int]:
+        """After how many dots the character, the line and the frame of an element end."""
+        state = element[INITIAL]
+        crtc, beam = state["crtc"], state["beam"]
+        width = 8 if state["seq"][1] & 1 else 9
+        line = (crtc[0] + 5) * width
+        to_line = line - beam["character"] * width - beam["dot"]
+        # No small frame has 256 lines.
+        to_frame = to_line + (crtc[6] + 1 - beam["line"]) * line
+        return width - beam["dot"], to_line, to_frame
+
+    def test_the_ends_of_characters_lines_and_frames(self) -> None:
+        counts: Counter[tuple[int, int]] = Counter()
+        first = last = wrapped = 0
+        for element in self.elements("clock", self.MANY):
+            ends = self.ends(element)
+            beams = element[INITIAL]["beam"], element[FINAL]["beam"]
+            first += not any(beams[0][name] for name in ("line", "character", "dot"))
+            last += ends == (1, 1, 1)
+            wrapped += beams[0]["frame"] == 31 and beams[1]["frame"] == 0
+            (dots,) = element["advance"]
+            counts.update(
+                (number, dots - end) for number, end in enumerate(ends) if abs(dots - end) < 2
+            )
+        # A dot less, all of them, and one more.
+        for corner in product(range(3), (-1, 0, 1)):
+            self.assertGreaterEqual(counts[corner], self.LEAST_OF_ENDS, corner)
+        self.assertGreaterEqual(min(first, last, wrapped), self.LEAST, (first, last, wrapped))
+
+    def test_the_beam_past_ends_that_have_moved(self) -> None:
+        counts: Counter[str] = Counter()
+        for element in self.elements("clock-changed", self.MANY):
+            told = element["name"].partition("other ")[2].partition(" since")[0]
+            to_character, to_line, to_frame = self.ends(element)
+            counts[told] += 1
+            counts["past the line"] += told == "characters" and to_line <= 0
+            counts["past the frame"] += told == "lines" and to_frame < to_line
+            # The ninth dot, in a character of eight.
+            counts["past the character"] += told == "width" and to_character == 0
+        kinds = ("lines", "characters", "width", "rows", "compare", "start", "offset")
+        past = ("past the line", "past the frame", "past the character")
+        self.assertEqual(set(counts), {*kinds, *past})
+        self.assertGreaterEqual(min(counts.values()), self.LEAST, counts)
 
 
 class Scripts(Made):
