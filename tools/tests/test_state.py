@@ -8,12 +8,13 @@ from random import Random
 from typing import Iterable, Iterator
 
 from zaklimot.format import Picture
+from zaklimot_tools.explain.banks import FrameShape
 from zaklimot_tools.report.report import Report
-from zaklimot_tools.trace.state import State, rebuilt
+from zaklimot_tools.trace.state import Beam, BeamPlace, State, rebuilt
 from zaklimot_tools.trace.step import ADVANCE, FRAME, OUT, OUTW, PUTW, READS, WORDS, TraceStep
 
 from .test_trace import steps_listed
-from .tools import refused, run_texts, stream
+from .tools import hold, refused, run_texts, stream
 
 # Steps that enable memory, in planar order with all planes open and no bits masked.
 PLANAR = [
@@ -175,6 +176,54 @@ class Program(unittest.TestCase):
         yield "beam frame {} line {} char {} dot {}".format(state.beam.frame, *state.beam.place)
         for entry in range(256):
             yield f"entry {entry:02X}:{hexed(dac.components[3 * entry:3 * entry + 3])}"
+
+
+class Beams(unittest.TestCase):
+    # Four lines of five characters of eight dots, so 40 dots a line and 160 a frame.
+    SHAPE = FrameShape(4, 5, 8)
+
+    def after(self, place: tuple[int, int, int], dots: int) -> tuple[int, tuple[int, int, int]]:
+        """The frame and the place of a beam that goes on by so many dots."""
+        beam = Beam()
+        beam.frame = 31
+        beam.place = BeamPlace(*place)
+        beam.advance(dots, self.SHAPE, [0] * 25)
+        return beam.frame, tuple(beam.place)
+
+    def test_places_after_some_dots(self) -> None:
+        hold(
+            self,
+            self.after,
+            (
+                ((0, 0, 0), 0, (31, (0, 0, 0))),
+                ((0, 0, 0), 7, (31, (0, 0, 7))),
+                ((0, 0, 0), 8, (31, (0, 1, 0))),
+                ((0, 0, 0), 39, (31, (0, 4, 7))),
+                ((0, 0, 0), 40, (31, (1, 0, 0))),
+                ((0, 0, 0), 159, (31, (3, 4, 7))),
+                ((0, 0, 0), 160, (0, (0, 0, 0))),
+                ((2, 3, 5), 160 * 2 + 1, (1, (2, 3, 6))),
+            ),
+        )
+
+    def test_what_a_place_outside_is_in_stays_until_it_ends(self) -> None:
+        hold(
+            self,
+            self.after,
+            (
+                # A line behind the last one ends as that does, and the frame with it.
+                ((9, 0, 0), 7, (31, (9, 0, 7))),
+                ((9, 0, 0), 8, (31, (9, 1, 0))),
+                ((9, 0, 0), 39, (31, (9, 4, 7))),
+                ((9, 0, 0), 40, (0, (0, 0, 0))),
+                # So do a character and a dot.
+                ((1, 7, 0), 7, (31, (1, 7, 7))),
+                ((1, 7, 0), 8, (31, (2, 0, 0))),
+                ((9, 7, 3), 5, (0, (0, 0, 0))),
+                ((1, 2, 8), 0, (31, (1, 2, 8))),
+                ((1, 2, 8), 1, (31, (1, 3, 0))),
+            ),
+        )
 
 
 class Cuts(unittest.TestCase):
