@@ -14,7 +14,7 @@ from zaklimot.format import Answer, Step
 from zaklimot_tools.core.progress import Progress
 from zaklimot_tools.script.words import FONTS
 from zaklimot_tools.trace import walking
-from zaklimot_tools.trace.cells import cells_of, code_page, look_of, text_of
+from zaklimot_tools.trace.cells import cells_of, code_page, entry_of, look_of, text_of
 from zaklimot_tools.trace.colourfiles import starts_of_pages
 from zaklimot_tools.trace.finding import Finder
 from zaklimot_tools.trace.rebuilding import rebuilt_as_told
@@ -276,6 +276,27 @@ class Walked(Folder):
         self.assertFalse(look_of(state, 0x07).is_underlined)
         state.seq.registers[1] |= 0x20
         self.assertEqual(look_of(state, 0x17).back, (0, 0, 0))
+
+    def test_entries_of_colours(self) -> None:
+        # Entry 5 of the palette is 3A, plane 3 is off, the border is 2C, and select has 9.
+        state = self.told(call(0x0003, 0, 0, 0)).state
+        for index, value in ((5, 0x3A), (0x11, 0x2C), (0x12, 0x07), (0x14, 0x09)):
+            state.attr.registers[index] = value
+        for control, index, mask, wanted in (
+            # Bits 7 and 6 come from select.
+            (0x00, 0x20, 0xFF, 0xBA),
+            # So do bits 5 and 4, if mode control says so.
+            (0x80, 0x20, 0xFF, 0x9A),
+            (0x80, 0x20, 0x0F, 0x0A),
+            # While the palette is written, all dots are the border's.
+            (0x00, 0x00, 0xFF, 0x2C),
+            (0x80, 0x1F, 0xF0, 0x20),
+        ):
+            state.attr.registers[0x10] = control
+            state.attr.index = index
+            state.dac.mask = mask
+            for bits in (0x05, 0x0D):
+                self.assertEqual(entry_of(state, bits), wanted, (control, index, mask))
 
     def test_starts_of_pages(self) -> None:
         for mode, wanted in (
