@@ -311,9 +311,10 @@ export function encodingTrouble(bytes) {
   if (frontIs(bytes, [0xef, 0xbb, 0xbf])) return ofFile("byte order mark");
   const none = notAScript(bytes);
   if (none) return none;
-  const last = bytes.findLastIndex(byte => byte > 32), carriage = bytes.indexOf(13);
-  const isOneLine = !bytes.includes(10) && carriage >= 0 && carriage < last;
-  return isOneLine ? ofFile("carriage returns") : null;
+  // Carriage returns before the first word and behind the last one are blanks.
+  const isOfWord = byte => byte > 32;
+  const words = bytes.slice(bytes.findIndex(isOfWord), bytes.findLastIndex(isOfWord) + 1);
+  return !bytes.includes(10) && words.includes(13) ? ofFile("carriage returns") : null;
 }
 
 // Files of other kinds, by what they begin with.

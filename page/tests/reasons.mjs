@@ -69,14 +69,18 @@ print(json.dumps([numbers(SHAPES), numbers(BLOCK_LINES), numbers(shown), list(RE
     MOST_STEPS], told);
 });
 
-/** Lines at random, the same in each run: words of the table, changed here and there. */
-function randomLines(count) {
+/** Whole numbers at random below one that each is asked for with, the same in each run. */
+function randomNumbers() {
   let seed = 4711;
-  const random = most => {
+  return most => {
     seed = Math.imul(seed, 1103515245) + 12345 >>> 0;
     return Math.floor(seed / 2 ** 32 * most);
   };
-  const pick = from => from[random(from.length)];
+}
+
+/** Lines at random: words of the table, changed here and there. */
+function randomLines(count) {
+  const random = randomNumbers(), pick = from => from[random(from.length)];
   const words = [...new Set([...TABLE.lines.map(row => row.line), ...TABLE.good].flatMap(
     line => line.split(/ +/)))]
     .filter(word => word !== "LONG");
@@ -106,4 +110,17 @@ print(json.dumps([None if mistake is None else [mistake.at, mistake.width,
     if (found) bad++;
   }
   assert.ok(bad > 10000, `${bad} of them are bad`);
+});
+
+test("texts at random are wrong as a whole where Python says so, and for its reason", () => {
+  const random = randomNumbers(), letters = [..."frame 1\t\r\r\r\n\n\0\x01"];
+  const fronts = ["", "", "", "VGAS", "\xef\xbb\xbf", "\xff\xfe", "\xfe\xff", "\r"];
+  const texts = Array.from({ length: 5000 }, () => fronts[random(fronts.length)] +
+    Array.from({ length: random(8) }, () => letters[random(letters.length)]).join(""));
+  const told = python(`
+from zaklimot_tools.explain.faults import _wrong_whole
+print(json.dumps([_wrong_whole(text.encode("latin-1")) for text in json.load(sys.stdin)]))`, texts);
+  const found = texts.map(text => encodingTrouble(Buffer.from(text, "latin1")));
+  for (const [i, text] of texts.entries()) assert.equal(found[i], told[i], JSON.stringify(text));
+  assert.equal(new Set(found).size, 6);
 });

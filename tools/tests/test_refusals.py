@@ -138,12 +138,18 @@ FAULTS_TOLD = (
         ("numbers are hexadecimal digits alone: write 3C4\n  out 0x3C4 02\n     " " ^^^^^"),
         b"frame\nout 0x3C4 02\n",
     ),
-    # A carriage return is a blank, also behind the only line.
+    # A carriage return is a blank, also before and behind the only line.
     (
         "F7 BadLine(1)",
         "s:1",
         "numbers are hexadecimal digits alone: write 3C4\n  out 0x3C4 02\n      ^^^^^",
         b"out 0x3C4 02\r",
+    ),
+    (
+        "F7 BadLine(1)",
+        "s:1",
+        "numbers are hexadecimal digits alone: write 3C4\n   out 0x3C4 02\n       ^^^^^",
+        b"\rout 0x3C4 02",
     ),
     *(
         (
