@@ -287,8 +287,12 @@ class Found(Cache):
         named = self.program("named", "#!/bin/sh\n")
         none = self.folder / "none"
         places = {"PROGRAM": Path(built), "RELEASED": Path(released)}
-        # The command `tools/vga` in the path is no program: it looks for one.
-        path = os.pathsep.join([str(TOP / "tools"), str(Path(in_path).parent)])
+        # The command `tools/vga` in the path, or a link to it, is no program: it looks for one.
+        linked = self.folder / "linked"
+        linked.mkdir()
+        (linked / "vga").symlink_to(TOP / "tools/vga")
+        places_in_path = ("", TOP / "tools", linked, Path(in_path).parent)
+        path = os.pathsep.join(map(str, places_in_path))
         with patched(program, places), mock.patch.dict(os.environ, PATH=path):
             self.assertEqual((found_program(named), found_program()), (named, built))
             with mock.patch.object(program, "PROGRAM", none):
