@@ -50,6 +50,7 @@ from .tools import (
     ppm,
     refused,
     run_texts,
+    run_tool,
 )
 
 
@@ -361,6 +362,23 @@ class Drawing(Folder):
                     text.splitlines()[-1].decode(),
                     f"frame ; = picture {picture.size} {picture.sum}",
                 )
+
+    def test_the_figures_stand_beside_what_is_written(self) -> None:
+        image = self.write("image", ppm_of([[RED] * 320] * 200))
+        script = self.folder / "script"
+        picture = self.folder / "picture"
+        words = ("script", image, script, "--mode", "13", "--picture", picture)
+        figures = run_tool("vga-picture", *words)[1].decode()
+        self.assertRegex(figures, r"^mode 13: .* steps, .*\n$")
+        written = script.read_bytes(), picture.read_bytes()
+        for places, wanted in (
+            ((script, "--picture", picture), (0, figures.encode(), "")),
+            (("-", "--picture", picture), (0, written[0], figures)),
+            ((script, "--picture", "-"), (0, written[1], figures)),
+        ):
+            done = run_tool("vga-picture", "script", image, "--mode", "13", *places)
+            self.assertEqual(done, wanted, places)
+        self.assertEqual((script.read_bytes(), picture.read_bytes()), written)
 
     def test_the_ground_behind_what_is_transparent(self) -> None:
         # The left half is red, and the right half clear: it has the ground, else the bars' colour.
