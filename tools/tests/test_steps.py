@@ -29,7 +29,7 @@ from zaklimot_tools.steps.parts import BDA, BEAM, FINAL, INITIAL, ORDER, Element
 from zaklimot_tools.steps.readback import readback_lines, state_read
 from zaklimot_tools.steps.reading import STEPS, fault_of, read_elements
 from zaklimot_tools.steps.rules import RULES, branches_shown
-from zaklimot_tools.steps.scripts import confirming, reached, text_lines
+from zaklimot_tools.steps.scripts import confirming, expected_answer, reached, text_lines
 from zaklimot_tools.script.words import FONTS
 
 from . import branches
@@ -188,6 +188,24 @@ class Clock(Made):
 
 class Scripts(Made):
     """The script of each element tells what stands in it."""
+
+    def test_the_answer_that_the_last_line_expects(self) -> None:
+        call = {"ax": 0x1015, "bx": 7, "cx": 0, "dx": 0}
+        answered = {"ax": 0x1015, "bx": 7, "cx": 0x0A0B, "dx": 0xC00}
+        expected: tuple[tuple[Element, Optional[str]], ...] = (
+            ({"get": [0xA0000], "answer": 0}, "00"),
+            ({"in": [0x3CC], "answer": 0x0C}, "0C"),
+            ({"inw": [0x3C4], "answer": 0x0C}, "000C"),
+            ({"getw": [0xA0000], "answer": 0xABCD}, "ABCD"),
+            ({"get": [0xA0000], "refused": "NotDecoded"}, "E1 NotDecoded"),
+            ({"put": [0xA0000, 5]}, None),
+            ({"int": call, "answer": answered}, "ax=1015 bx=0007 cx=0A0B dx=0C00"),
+            (
+                {"int": call, "answer": {**answered, "block": [0, 0x1F]}},
+                "ax=1015 bx=0007 cx=0A0B dx=0C00 block 001F",
+            ),
+        )
+        hold(self, expected_answer, expected)
 
     def test_the_program_confirms_all(self) -> None:
         want_program()
