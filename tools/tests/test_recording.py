@@ -36,7 +36,6 @@ from zaklimot_tools.trace.state import State
 from zaklimot_tools.trace.step import ADVANCE, FRAME, IN, INT, OUT, OUTW, PUT, TraceStep
 from zaklimot_tools.trace.trace import SCREEN, Call, opened
 
-from .test_trace import BEGIN, listed, qemu, registers
 from .tools import (
     BLACK,
     PROGRAM as PROGRAM_TESTED,
@@ -53,6 +52,7 @@ from .tools import (
     run_tool,
     want_program,
 )
+from .tracing import BEGIN, listed, qemu, registers
 
 
 run = partial(run_tool, "vga-trace")

@@ -23,7 +23,6 @@ from zaklimot_tools.trace.told import Told, state_asked
 from zaklimot_tools.trace.trace import SCREEN, Call
 from zaklimot_tools.trace.walking import Item, Question, Walk
 
-from .test_trace import qemu
 from .tools import (
     EXAMPLES,
     PROGRAM,
@@ -35,6 +34,7 @@ from .tools import (
     run_tool,
     want_program,
 )
+from .tracing import qemu
 
 
 TYPED = EXAMPLES / "typed-line.trace"

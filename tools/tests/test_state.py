@@ -13,8 +13,8 @@ from zaklimot_tools.report.report import Report
 from zaklimot_tools.trace.state import Beam, BeamPlace, State, rebuilt
 from zaklimot_tools.trace.step import ADVANCE, FRAME, OUT, OUTW, PUTW, READS, WORDS, TraceStep
 
-from .test_trace import steps_listed
 from .tools import hold, refused, run_texts, stream
+from .tracing import steps_listed
 
 # Steps that enable memory, in planar order with all planes open and no bits masked.
 PLANAR = [
