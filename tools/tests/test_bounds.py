@@ -33,8 +33,8 @@ from zaklimot_tools.report import cases
 from zaklimot_tools.report.cases import MOST_LISTED, read_cases
 from zaklimot_tools.report.report import Expected, Report
 
+from .running import Fake
 from .test_images import png
-from .test_run import Fake
 from .tools import (
     PYTHON,
     TOOLS,

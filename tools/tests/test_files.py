@@ -21,7 +21,7 @@ from zaklimot_tools.core.files import (
 )
 from zaklimot_tools.core.streams import write_over, writing
 
-from .test_run import Fake
+from .running import Fake
 from .tools import PYTHON, TOOLS, Folder, begin, ended, hold_undone, ppm, refused, run_tool
 
 

@@ -45,8 +45,8 @@ from zaklimot_tools.dev.page_tests import command as tests_command
 from zaklimot_tools.report import debugging
 from zaklimot_tools.report.debugging import DOCS, PAGE, data_element, page_data
 
+from .running import Fake
 from .test_command import PICTURE, run
-from .test_run import Fake
 from .tools import (
     BLACK,
     RED,

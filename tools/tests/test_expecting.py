@@ -1,0 +1,352 @@
+"""Scripts beside the answers that they expect: one, those of a folder, and the examples. And the
+program that runs them, where it is lacking."""
+
+from __future__ import annotations
+
+import io
+import json
+import os
+import re
+import signal
+import unittest
+from functools import partial
+from itertools import product
+from pathlib import Path
+from unittest import mock
+from xml.etree import ElementTree
+
+from zaklimot.format import count_in, lines_in, places_in, steps_in, words_in
+from zaklimot_tools.core.trouble import Trouble
+from zaklimot_tools.report.expecting import dumps_in, expected_in
+from zaklimot_tools.script import program
+from zaklimot_tools.script.reading import text_of
+
+from .running import Fake, run
+from .tools import EXAMPLES, PROGRAM, begin, hold, refused, want_program
+
+# What the program does first where two runs of it are to be under way at a time.
+TOGETHER = """import glob, os, time
+open(f"{sys.argv[0]}.{os.getpid()}", "w").close()
+while len(glob.glob(sys.argv[0] + ".*")) < 2: time.sleep(0.01)
+"""
+# What it does first where no two are to be: it fails while another runs.
+ALONE = (
+    "import fcntl, time; own = open(sys.argv[0]); fcntl.flock(own, fcntl.LOCK_EX | fcntl.LOCK_NB);"
+    " time.sleep(0.1)\n"
+)
+
+
+class Expectations(unittest.TestCase):
+    """What a text expects of its steps. page/tests/expecting.mjs holds which answers meet it."""
+
+    def test_comments(self) -> None:
+        hold(
+            self,
+            lambda comment: expected_in(comment.encode()),
+            [
+                ("= 55", "55"),
+                (" =55 ; more", "55"),
+                ("55", None),
+                ("= E6  WrongKind", "E6 WrongKind"),
+                ("=", ""),
+            ],
+        )
+
+    def test_dumps(self) -> None:
+        hold(
+            self,
+            lambda text: dumps_in(text.encode(), "t"),
+            [
+                ("frame\n;| a\n ;| b \nframe\n;| c\n", {1: ("a", "b"), 4: ("c",)}),
+                ("; x\n;| a\nframe\n\n;| b\n", {}),
+                ("version 2\nREPEAT 2\n;| a\nframe ; x\n;| b\nend\n;| c\n", {4: ("b",)}),
+                ("frame\n frame ;| a\n", {}),
+                ("ret\v2 ; = 5\n\t\r\n", {}),
+                ("\xe9 ; = 5\n;| 1", {1: ("1",)}),
+            ],
+        )
+
+    def test_lines_of_any_bytes(self) -> None:
+        pieces = (
+            b"out 3C4 02",
+            b"  in\t3da",
+            b"\xff",
+            b"\v",
+            b"\f",
+            b" ",
+            b"\r",
+            b";",
+            b"; = 5",
+            b"\n",
+        )
+        for text in map(b"".join, product(pieces, repeat=4)):
+            fronts = [(at, line.partition(b";")) for at, line in enumerate(text.split(b"\n"), 1)]
+            wanted = [
+                (at, " ".join(map(text_of, words)), comment)
+                for at, (front, _, comment) in fronts
+                if (words := re.findall(rb"[^ \t\r]+", front))
+            ]
+            lines = [(*line[:2], line[2].rstrip(b"\n")) for line in lines_in(io.BytesIO(text))]
+            self.assertEqual(lines, wanted, text)
+            for whole in (text, b"version 2\n" + text):
+                places = [(line.number, line.comment) for line in steps_in(io.BytesIO(whole))]
+                self.assertEqual(list(places_in(io.BytesIO(whole))), places, whole)
+
+    def test_blocks(self) -> None:
+        def steps(text: str) -> list[tuple[int, str]]:
+            return [(line.number, line.words) for line in steps_in(io.BytesIO(text.encode()))]
+
+        text = (
+            "; x\nVersion  2\nint\nrepeat 2 ; twice\nframe ; = *\nin 3DA\nEND\nrepeat"
+            " 3\nend\nframe\n"
+        )
+        self.assertEqual(
+            steps(text), [(3, "int"), *[(5, "frame"), (6, "in 3DA")] * 2, (10, "frame")]
+        )
+        self.assertEqual(steps("version 2\nrepeat 65535\nframe\n"), [(3, "frame")])
+        with mock.patch("zaklimot.format.lines.MOST_STEPS", 1000):
+            self.assertEqual(len(steps("version 2\nrepeat 65535\n" + "frame\n" * 300 + "end")), 900)
+        self.assertEqual(steps("frame\nrepeat 2\nend"), [(1, "frame"), (2, "repeat 2"), (3, "end")])
+        long = (
+            "version 2\nrepeat 3\n" + "".join(f"in {at:X}\n" for at in range(5000)) + "end\nframe\n"
+        )
+        once = [(at + 3, f"in {at:X}") for at in range(5000)]
+        self.assertEqual(steps(long), [*once, *once, *once, (5004, "frame")])
+        others = (
+            "frame\nin 3DA ; repeat 2\n",
+            "",
+            "version 2\nrepeat 7\nend\n",
+            "; a\n \t\r\n ; b\nframe",
+        )
+        for some in (text, long, *others):
+            self.assertEqual(count_in(io.BytesIO(some.encode())), len(steps(some)))
+        printed = "version 2\nIN 3DA\nrepeat 2\nFRAME\nend\n"
+        self.assertEqual(
+            list(words_in(io.BytesIO(printed.encode()))), [words for _, words in steps(printed)]
+        )
+
+
+class Examples(unittest.TestCase):
+    def test_each_answers_what_its_comments_expect(self) -> None:
+        want_program()
+        status, output, said = run("run", EXAMPLES, "--jobs", "4", "--vga", PROGRAM)
+        self.assertEqual((status, said), (0, ""))
+        *lines, last = output.decode().splitlines()
+        self.assertRegex(last, "^[0-9]+ scripts, 0 differ$")
+        self.assertGreater(int(last.split()[0]), 22)
+        for line in lines:
+            # Bytes have no comments.
+            self.assertRegex(line, r"\.bin: |, ([1-9]\d*) of \1 answers as expected$")
+
+
+class Several(Fake):
+    def setUp(self) -> None:
+        super().setUp()
+        self.tests = self.folder / "tests"
+        for name, text in (
+            ("a.vga", "get 0 ; = E6\n"),
+            ("more/b.vga", "get 0 ; = 55\nin 60\n"),
+            ("notes.txt", ""),
+        ):
+            self.write(f"tests/{name}", text)
+
+    def test_each_script_of_a_folder(self) -> None:
+        self.begin_program(TOGETHER)
+        status, output, said = self.run_script("--jobs", "2", path=str(self.tests))
+        a, b = self.tests / "a.vga", self.tests / "more" / "b.vga"
+        self.assertEqual((status, said), (1, ""))
+        self.assertEqual(
+            output,
+            (
+                f"{a}: 1 step, 0 pictures, 1 of 1 answers as expected\n{b}:1: step 1: GET 0 answers"
+                f" E6, not 55\n{b}: 2 steps, 1 refused, 0 pictures, 0 of 1 answers as expected\n2"
+                " scripts, 1 differs\n"
+            ),
+        )
+        # One at a time, if no more are asked for; and each gets the options.
+        self.begin_program(ALONE)
+        output = self.run_script("--strict", "--diff", path=str(self.tests))[1]
+        self.assertIn("\n-get 0 ; = 55\n-in 60\n+get 0 ; = E6\n+in 60 ; = E1 NotDecoded\n", output)
+        self.begin_program(
+            "if sys.argv[1] == 'go' and sys.argv[3:] != ['--fonts', 'f', '--until', '1']:"
+            " sys.exit(9)\n"
+        )
+        output = self.run_script("--until", "1", "--fonts", "f", path=str(self.tests))[1]
+        self.assertEqual(output.count(": 5 steps, "), 2)
+
+    def test_json_is_made_where_it_is_wanted_alone(self) -> None:
+        # For each step it takes as long as all else.
+        wrong = mock.patch("zaklimot_tools.report.listing._told", side_effect=MemoryError)
+        with wrong:
+            status, output, said = self.run_script(path=str(self.tests))
+            self.assertEqual((status, said), (1, ""))
+            self.assertIn("2 scripts, 1 differs", output)
+            told = str(self.folder / "told.json")
+            self.assertEqual(self.run_script("--json", told, path=str(self.tests))[0], 2)
+
+    def test_a_script_that_was_not_even_begun_is_null_in_the_json(self) -> None:
+        told = self.folder / "told.json"
+        with mock.patch("zaklimot_tools.report.runs.tallied", side_effect=Trouble("no room")):
+            status, _, said = self.run_script("--json", str(told), path=str(self.tests))
+        self.assertEqual((status, said), (2, "vga-report: no room\n" * 2))
+        self.assertEqual(json.loads(told.read_text()), [None, None])
+
+    def test_no_script_is_written_over(self) -> None:
+        script = str(self.tests / "a.vga")
+        for words in (
+            (self.tests, "--json", script),
+            (self.tests, "--junit", script),
+            (self.tests,),
+            (script,),
+        ):
+            onto = partial(os.dup2, os.open(script, os.O_WRONLY | os.O_APPEND), 1)
+            name, prepare = ("standard output", onto) if len(words) == 1 else (script, bool)
+            done = run("run", *words, "--vga", self.vga, prepare=prepare)
+            self.assertEqual(
+                done, (2, b"", f"vga-report: {name}: it is read as {script}, so it isn't written\n")
+            )
+        self.assertEqual(Path(script).read_text(), "get 0 ; = E6\n")
+
+    def test_a_name_that_looks_like_an_option(self) -> None:
+        (self.tests / "-c.vga").write_text("frame\n")
+        status, output, _ = run("run", ".", "--vga", self.vga, prepare=lambda: os.chdir(self.tests))
+        self.assertEqual((status, output.split(b"\n")[0]), (1, b"-c.vga: 1 step, 1 picture"))
+
+    def test_for_machines(self) -> None:
+        (self.tests / "c.vga").write_text("move <&>\n")
+        junit, told = self.folder / "junit.xml", self.folder / "told.json"
+        status, output, said = self.run_script(
+            "--junit", str(junit), "--json", str(told), path=str(self.tests)
+        )
+        self.assertEqual(
+            (status, output.splitlines()[-1]), (2, "3 scripts, 1 differs, 1 can't be run")
+        )
+        self.assertIn("c.vga:1: F7 BadLine(1): there is no step 'move'", said)
+        suite = ElementTree.parse(junit).getroot()
+        self.assertEqual(
+            [suite.get(name) for name in ("tests", "failures", "errors")], ["3", "1", "1"]
+        )
+        self.assertEqual(
+            [[part.tag for part in case] for case in suite], [[], ["error"], ["failure"]]
+        )
+        told_first, _, others = (suite[2][0].text or "").partition("\n")
+        self.assertIn("GET 0 answers E6, not 55", told_first)
+        self.assertEqual((suite[2][0].get("message"), bool(others)), (told_first, True))
+        scripts = json.loads(told.read_text())
+        self.assertEqual(
+            [(one["steps"], one["wrong"], bool(one["trouble"])) for one in scripts],
+            [(1, 0, False), (0, 0, True), (2, 1, False)],
+        )
+
+    def test_text_goes_to_standard_error_where_machines_read_the_output(self) -> None:
+        text = self.run_script(path=str(self.tests))[1]
+        self.assertTrue(text.endswith("2 scripts, 1 differs\n"))
+        done = self.run_script("--junit", "-", path=str(self.tests))
+        self.assertEqual((done[0], done[2]), (1, text))
+        suite = ElementTree.fromstring(done[1].encode())
+        self.assertEqual((suite.tag, suite.get("tests"), len(suite)), ("testsuite", "2", 2))
+        done = self.run_script("--json", "-", path=str(self.tests))
+        self.assertEqual((done[0], done[2], len(json.loads(done[1]))), (1, text, 2))
+
+    def test_the_program_is_built_or_tried_where_it_is_lacking(self) -> None:
+        # A toolchain that notes what it is asked for, builds the program once that is there, and
+        # tries none to its end.
+        build = f"mkdir -p out; cp {self.folder}/ready out/vga || {{ echo crate vga >&2; exit 3; }}"
+        rt = self.program(
+            "bin/rt", f'#!/bin/sh\nwords=$*; echo "${{words%% --data*}}" >> asked; {build}\n'
+        )
+        crate = Path(self.write("crate/src/main.rt", "")).parents[1]
+        told = self.run_script()[1].encode()
+        path = {"PATH": f"{Path(rt).parent}{os.pathsep}{os.environ['PATH']}"}
+        limits = "60 seconds and 1 MiB of output, which two pictures of text fill"
+        with mock.patch.dict(os.environ, path), mock.patch.multiple(
+            program, CRATE=crate, PROGRAM=crate / "out/vga"
+        ):
+            self.assertIn(
+                "rt: it ended with status 3\n",
+                refused(program.build_program, progress := mock.Mock()),
+            )
+            self.assertRegex(
+                progress.tell.call_args[0][0], r" building the program: vga, crate (\d+) of \1$"
+            )
+            self.assertIn(
+                f" not run it to its end, within {limits}: crate vga\n",
+                run("run", self.path, "--try")[2],
+            )
+            self.vga.rename(self.folder / "ready")
+            for _ in "12":
+                self.assertEqual(run("run", self.path, "--build"), (0, told, ""))
+        self.assertEqual((crate / "asked").read_text(), "run -- --help\ntry\nrun -- --help\n")
+
+    def test_what_stands_before_the_limit_of_a_try(self) -> None:
+        # A toolchain that runs no script past its first picture.
+        two = self.write("two.vga", "frame\nget 0\nframe\nframe\n")
+        crate = Path(self.write("crate/src/main.rt", "")).parents[1]
+        tries = f"{self.vga} go {two} --fonts - --until 2; echo run=ended status=0 >&2"
+        ends = "(head -c 99999 /dev/zero; echo; echo checked: too much; echo run=no-answer) >&2"
+        rt = self.program(
+            "bin/rt", f'#!/bin/sh\ncase "$*" in *"--until 2") {tries};; *) {ends};; esac\n'
+        )
+        told = self.folder / "told"
+        path = f"{Path(rt).parent}{os.pathsep}{os.environ['PATH']}"
+        with mock.patch.dict(os.environ, {"PATH": path}), mock.patch.object(
+            program, "CRATE", crate
+        ):
+            status, output, said = run("run", two, "--try", "--json", str(told))
+            self.assertEqual(
+                (status, [line.split()[1] for line in output.splitlines()]),
+                (2, [b"step", b"1", b"2"]),
+            )
+            self.assertIn("fill; --until 2 ends before the second: too much\n", said)
+            self.assertEqual(
+                (
+                    run("run", two, "--try", "--until", "2")[0],
+                    len(json.loads(told.read_text())["answers"]),
+                ),
+                (0, 2),
+            )
+            self.assertNotIn("the second", run("run", two, "--try", "--until", "1")[2])
+            # What can't be built isn't asked for again.
+            Path(rt).write_text("#!/bin/sh\necho >> asked\necho no crate >&2\n")
+            self.assertTrue(
+                run("run", two, "--try")[2].endswith("two pictures of text fill: no crate\n")
+            )
+            self.assertEqual((crate / "asked").read_text(), "\n")
+
+    def test_it_runs_again_when_the_script_changes(self) -> None:
+        words: list[str | Path] = [
+            "run",
+            self.path,
+            "--vga",
+            self.vga,
+            "--quiet",
+            "--watch",
+            "--json",
+            told_in := self.folder / "page",
+        ]
+        words += ["--fonts", fonts := self.write("fonts", "1")]
+        process = begin("vga-report", *words, text=True)
+        assert process.stdout is not None and process.stderr is not None
+        with process.stdout, process.stderr:
+            # What is not as it should be ends the watching all the same.
+            self.addCleanup(process.wait)
+            self.addCleanup(process.kill)
+            self.assertIn("6 steps", process.stdout.readline())
+            self.write("s.vga", "frame\n")
+            told = process.stdout.readline(), process.stdout.readline()
+            self.assertEqual(
+                told, (f"{self.path} has changed\n", f"{self.path}: 1 step, 1 picture\n")
+            )
+            # The file takes its place once all is told.
+            self.wait_until(lambda: '"steps": 1, ' in told_in.read_text("utf-8"))
+            self.write("fonts", "2")
+            self.assertEqual(
+                process.stdout.readline() + process.stdout.readline(),
+                "".join(told).replace(self.path, fonts, 1),
+            )
+            self.write("s.vga", "move\n")
+            self.assertEqual(process.stdout.readline(), f"{self.path} has changed\n")
+            self.assertIn("F7 BadLine(1)", process.stderr.readline())
+            process.send_signal(signal.SIGINT)
+            self.assertEqual(process.wait(60), 130)
+            self.assertNotIn("Traceback", process.stderr.read())
