@@ -89,6 +89,20 @@ class Kept(Folder):
         text = run_tool("vga-trace", "text", self.zip, "--vga", PROGRAM)[1].decode()
         self.assertEqual(text[:2], "A\n")
 
+    def test_all_parts_of_a_recording_and_nothing_else(self) -> None:
+        # What stands in the second part is shown in the end.
+        first, *rest = TRACE.splitlines(keepends=True)
+        self.write("recorded/trace.gz", packed(first))
+        self.write("recorded/trace-0002.gz", packed(b"".join(rest)))
+        self.write("recorded/notes.txt", "mine")
+        self.keep()
+        with zipfile.ZipFile(self.zip) as archive:
+            self.assertEqual(archive.namelist(), sorted([*NAMES, "trace-0002.gz"]))
+        before = self.judge(self.recorded)
+        self.assertEqual(self.judge(self.zip)[1].splitlines()[:-1], before[1].splitlines())
+        text = run_tool("vga-trace", "text", self.zip, "--vga", PROGRAM)[1].decode()
+        self.assertEqual(text[:2], "A\n")
+
     def test_what_is_otherwise_is_told(self) -> None:
         self.keep()
         other = self.rewritten(verdict_txt=b"1 cycle\n")
