@@ -135,6 +135,15 @@ def text_dots(height: int = 16, own: int = 0) -> list[list[Colour]]:
     return dots
 
 
+def glyphs_in_order() -> Dots:
+    """A page of all characters, one behind the other, white on black."""
+    dots: list[list[Colour]] = [[] for _ in range(400)]
+    for at in range(25 * 80):
+        for y, line in enumerate(glyph_lines(FONT[FONTS_AT[16] :], 16, at % 256), at // 80 * 16):
+            dots[y] += [WHITE if bit else BLACK for bit in line]
+    return dots
+
+
 def made_of(image: bytes, *words: str) -> tuple[str, bytes]:
     """What is told of a script of an image, and the script."""
     with tempfile.TemporaryDirectory() as folder:
@@ -275,6 +284,10 @@ def of_text() -> Iterator[Case]:
     yield Case(
         whole, "--mode 3 --short", f" {cells}; 21 steps, .*: 15 int, 5 putw, 1 frame$", whole
     )
+    # A string would obey four of the characters, and three between them are shorter as words. Each
+    # comes eight times, and the last cell is a word too.
+    whole = ppm_of(glyphs_in_order())
+    yield Case(whole, "--mode 3 --short", f" 2 colours, {cells}; .*: 57 putw, 13 int, 1 frame$", whole)
     # Not each of the forty stands on the page.
     for rows, height, told in (
         (28, 14, "2,240 of 2,240 cells fit, 33"),
