@@ -16,7 +16,7 @@ from zaklimot_tools.trace import container
 from zaklimot_tools.trace.container import keep, unpacked
 from zaklimot_tools.trace.note import digests_of
 
-from .tools import PROGRAM, Folder, hold_undone, ppm, refused, run_tool, want_program
+from .tools import PROGRAM, Folder, hold_undone, png_rows, ppm, refused, run_tool, want_program
 
 
 TRACE = b"0+0 int 3 0 0 0\n1+9 w m B8000 41 1\n9+99 frame\n"
@@ -112,6 +112,18 @@ class Kept(Folder):
         status, output, _ = self.judge(other)
         self.assertEqual(status, 1)
         self.assertTrue(output.endswith("\npicture-1.png is otherwise than it was kept\n"), output)
+
+    def test_one_that_agrees_and_is_otherwise_differs(self) -> None:
+        # The machine has shown the very picture that the adapter draws.
+        self.judge(self.recorded)
+        width, height, rows = png_rows((self.recorded / "picture-1.png").read_bytes())
+        self.write("recorded/screen-1.ppm", b"P6 %d %d 255\n%b" % (width, height, b"".join(rows)))
+        self.assertEqual(self.judge(self.recorded)[0], 0)
+        self.keep()
+        self.assertEqual(self.judge(self.zip)[0], 0)
+        status, output, _ = self.judge(self.rewritten(verdict_txt=b"1 cycle\n"))
+        self.assertEqual(status, 1)
+        self.assertIn("the verdict is otherwise than it was kept: 1 cycle\n", output)
 
     def test_what_is_no_recording(self) -> None:
         self.keep()
