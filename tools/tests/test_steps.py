@@ -367,7 +367,9 @@ class Scripts(Made):
 class Machines(Made):
     """Elements for adapters that show their state by ports and addresses alone."""
 
-    KINDS = ("write-mode-1-odd-even", "read-words", "attribute-controller", "dac-writes", "clock")
+    # Elements of the beam, of which a machine tells nothing: cycles, and dots that pass.
+    OF_BEAM = ("input-status-1", "clock")
+    KINDS = ("write-mode-1-odd-even", "read-words", "attribute-controller", "dac-writes", *OF_BEAM)
 
     def reports(self, *words: Any) -> list[Path]:
         """The reports of the scripts of some elements, by the program."""
@@ -397,9 +399,10 @@ class Machines(Made):
                 made = self.reports("--first", 12, *words)
                 status, output, said = self.judged("--first", 12)
                 self.assertEqual((status, said), (0, ""), output)
-                # Of the beam and of refusals a machine tells nothing.
-                self.assertFalse([path for path in made if path.parent.name == "clock"])
-                self.assertIn("clock.json.gz: no element\n", output)
+                # Of refusals it tells nothing either.
+                self.assertFalse([path for path in made if path.parent.name in self.OF_BEAM])
+                for kind in self.OF_BEAM:
+                    self.assertIn(f"{kind}.json.gz: no element\n", output)
                 self.assertIn(f"{len(made)} elements: {len(made)} agree, 0 differ\n", output)
                 self.assertIn("dac_component is left out of ", output)
 
