@@ -287,7 +287,9 @@ def of_text() -> Iterator[Case]:
     # A string would obey four of the characters, and three between them are shorter as words. Each
     # comes eight times, and the last cell is a word too.
     whole = ppm_of(glyphs_in_order())
-    yield Case(whole, "--mode 3 --short", f" 2 colours, {cells}; .*: 57 putw, 13 int, 1 frame$", whole)
+    yield Case(
+        whole, "--mode 3 --short", f" 2 colours, {cells}; .*: 57 putw, 13 int, 1 frame$", whole
+    )
     # Not each of the forty stands on the page.
     for rows, height, told in (
         (28, 14, "2,240 of 2,240 cells fit, 33"),

@@ -9,7 +9,15 @@ from typing import Callable, Iterator, Optional, Sequence, Union
 from zaklimot.format import MOST_ADVANCE, Answer, Digest, Picture
 from zaklimot_tools.core.files import STANDARD, files, name_of
 from zaklimot_tools.core.progress import Progress
-from zaklimot_tools.core.streams import reading, teller, write, write_file, write_name, writing
+from zaklimot_tools.core.streams import (
+    counted,
+    reading,
+    teller,
+    write,
+    write_file,
+    write_name,
+    writing,
+)
 from zaklimot_tools.core.trouble import AGREED, DIFFERED, Trouble
 from zaklimot_tools.explain.faults import read_script, script_of
 from zaklimot_tools.explain.registers import USUAL, Registers
@@ -100,7 +108,8 @@ class _Moving:
         with writing(self._path) as output:
             made.write(output)
         if self._path != STANDARD:
-            write(f"{self._path}: {len(made.frames)} frames, {made.seconds:.3f} seconds\n")
+            frames = counted(len(made.frames), "frame")
+            write(f"{self._path}: {frames}, {made.seconds:.3f} seconds\n")
 
 
 def pictures(words: argparse.Namespace, progress: Progress) -> int:
@@ -199,8 +208,7 @@ class Compared:
     def end(self, seen: str) -> None:
         """Tells what was seen of the reports, and writes the page."""
         if self._wants_picture:
-            told = f"no pictures differ, so {self._words.picture} isn't written"
-            sys.stderr.write(f"vga-report: {told}\n")
+            _tell_unwritten("no pictures differ", self._words.picture)
         both = " and ".join(self._names)
         if self._page is not None:
             said = f"{self.count} step{'s differ' if self.count != 1 else ' differs'}; {seen}"
@@ -252,6 +260,12 @@ def _difference_text(difference: Difference, names: tuple[str, str]) -> str:
     return "\n".join(lines + ([f"  {dots}"] if dots else [])) + "\n"
 
 
+def _tell_unwritten(reason: str, path: str) -> None:
+    """Tells why a picture that was asked for isn't written."""
+    name = name_of(path, "standard output")
+    sys.stderr.write(f"vga-report: {reason}, so {name} isn't written\n")
+
+
 def compare_picture(words: argparse.Namespace, progress: Progress) -> int:
     """Compares the picture of a step with an image, PNG or PPM."""
     with _steps(words.report, progress) as steps:
@@ -262,12 +276,14 @@ def compare_picture(words: argparse.Namespace, progress: Progress) -> int:
     found = held_size(picture, *size_of(data, name))
     if found is None:
         found = held(picture, image_of(data, name), words.within)
+    tell = teller(words.picture)
     agrees = found.differing == 0
-    write(f"step {words.step} and {name} {'agree' if agrees else 'differ'}: {found.how}\n")
-    if agrees:
-        return AGREED
-    if found.image is not None:
-        write(f"  {found.told}\n")
-        if words.picture is not None:
-            save_png(words.picture, picture, Shape(words.scale, words.aspect), found.image)
-    return DIFFERED
+    tell(f"step {words.step} and {name} {'agree' if agrees else 'differ'}: {found.how}\n")
+    has_dots = not agrees and found.image is not None
+    if has_dots:
+        tell(f"  {found.told}\n")
+    if words.picture is not None and has_dots:
+        save_png(words.picture, picture, Shape(words.scale, words.aspect), found.image)
+    elif words.picture is not None:
+        _tell_unwritten("no dots differ" if agrees else "the sizes differ", words.picture)
+    return AGREED if agrees else DIFFERED

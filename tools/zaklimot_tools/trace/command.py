@@ -11,7 +11,7 @@ from zaklimot.format import Picture
 from zaklimot_tools.core.files import STANDARD, check_folder, files, name_of
 from zaklimot_tools.core.processes import check_program
 from zaklimot_tools.core.progress import Progress
-from zaklimot_tools.core.streams import reading, write_name, writing
+from zaklimot_tools.core.streams import counted, reading, write_name, writing
 from zaklimot_tools.core.trouble import AGREED, DIFFERED, Trouble
 from zaklimot_tools.images.png import Animation, ImageSize, Shape, save_png
 from zaklimot_tools.report.report import Report
@@ -32,6 +32,8 @@ from .trace import Trace, opened
 
 # Pictures that move have so many bytes at most.
 MOST_PACKED = 1 << 29
+# What messages call an output that has no name.
+OUTPUT = "standard output"
 
 
 def _listing(trace: Trace, words: argparse.Namespace) -> Listing:
@@ -140,11 +142,12 @@ def _moving(animation: Animation, pictures: Iterator[tuple[Picture, float]]) -> 
 def _write_moving(words: argparse.Namespace, animation: Animation) -> None:
     """Writes pictures that move, as APNG and as a video."""
     output = _beside(words.apng)
-    told = f"{len(animation.frames)} pictures, {animation.seconds:.3f} seconds"
+    pictures = counted(len(animation.frames), "picture")
+    told = f"{pictures}, {animation.seconds:.3f} seconds"
     if words.apng is not None:
         with writing(words.apng) as stream:
             animation.write(stream)
-        print(f"{words.apng}: {told}", file=output)
+        print(f"{name_of(words.apng, OUTPUT)}: {told}", file=output)
     if words.video is not None:
         write_video(words.video, animation)
         print(f"{words.video}: {told}", file=output)
@@ -183,7 +186,7 @@ def _judged_again(words: argparse.Namespace, folder: Path, progress: Progress) -
 def keep_recording(words: argparse.Namespace, _: Progress) -> None:
     """Keeps a recording in one file."""
     size = keep(Path(words.folder), words.output)
-    print(f"{words.output}: {size:,} bytes", file=_beside(words.output))
+    print(f"{name_of(words.output, OUTPUT)}: {size:,} bytes", file=_beside(words.output))
 
 
 class _OnQemu:

@@ -1,0 +1,84 @@
+"""Outputs on standard output: they are the files that stand there otherwise, and nothing is told
+among them."""
+
+from __future__ import annotations
+
+import os
+import shlex
+from typing import Optional
+
+from .tools import BLACK, EXAMPLES, PROGRAM, RED, WHITE, Folder, ppm, run_tool, want_program
+
+
+# Commands with the place of their output, their status, what is told beside a file, and what is
+# told where the output is standard output: None where that is the same.
+DIFFER = (
+    "  1 of 2 dots differ, the first is dot 1 of row 0: 3F3F3F, not 000000\n",
+    "step 1 differs\n"
+    "  one:1: picture 16 2x1 adced6a5b6c82272e9b653910d61e040\n"
+    "  two:1: picture 16 2x1 b28a2c68ac5287a944f28a57cdf7a52d\n",
+)
+COMPARED = DIFFER[1] + DIFFER[0]
+HELD = f"step 1 and image differ: 2x1, six bits a component\n{DIFFER[0]}"
+MOVING = "1 picture, 0.014 seconds\n"
+MOVING = "{}: 1 picture, 1.029 seconds\n"
+OUTPUTS: tuple[tuple[str, int, str, Optional[str]], ...] = (
+    ("report pictures one --apng {}", 0, "{}: 1 frame, 0.014 seconds\n", ""),
+    ("report compare one two --picture {}", 1, COMPARED, None),
+    ("report compare one two --html {}", 1, COMPARED, None),
+    ("report compare-picture one 1 image --picture {}", 1, HELD, None),
+    ("floppy make script {}", 0, "", None),
+    ("trace convert trace {}", 0, "2 cycles, 3 steps, 14 bytes: 2 out, 1 frame\n", None),
+    ("trace palette trace --vga {vga} {}", 0, "", None),
+    ("trace screen trace --vga {vga} {}", 0, "{}\n", ""),
+    ("trace font typed --vga {vga} {}", 0, "", None),
+    ("trace pictures timed --vga {vga} --apng {}", 0, MOVING, None),
+)
+# Where no picture is written although one is asked for, and why.
+UNWRITTEN = (
+    ("compare one one", 0, "no pictures differ"),
+    ("compare-picture two 1 image", 0, "no dots differ"),
+    ("compare-picture one 1 large", 1, "the sizes differ"),
+)
+NOWHERE = "standard output"
+
+
+class Outputs(Folder):
+    def setUp(self) -> None:
+        super().setUp()
+        self.report("one", ppm(2, 1, RED + WHITE))
+        self.report("two", ppm(2, 1, RED + BLACK))
+        self.write("image", ppm(2, 1, RED + BLACK))
+        self.write("large", ppm(3, 1, RED + BLACK + BLACK))
+        self.write("script", "frame\n")
+        self.write("trace", "- w p 3C2 63 1\n- w p 3C4 1 1\n")
+        self.write("timed", "0 w p 3C2 63 1\n20000 w p 3C2 63 1\n")
+        (self.folder / "typed").symlink_to(EXAMPLES / "typed-line.trace")
+
+    def done(self, words: str) -> tuple[int, bytes, str]:
+        """Exit status, output and standard error of a command in the folder."""
+        tool, *rest = shlex.split(words)
+        return run_tool(f"vga-{tool}", *rest, prepare=lambda: os.chdir(self.folder))
+
+    def test_each_is_the_file_that_stands_there_otherwise(self) -> None:
+        want_program()
+        for words, status, beside, told in OUTPUTS:
+            with self.subTest(words):
+                name = "o.gpl" if "palette" in words else "o.psf" if "font" in words else "o"
+                done = self.done(words.format(name, vga=PROGRAM))
+                self.assertEqual(done, (status, beside.format(name).encode(), ""))
+                written = (self.folder / name).read_bytes()
+                (self.folder / name).unlink()
+                told = beside if told is None else told
+                done = self.done(words.format("-", vga=PROGRAM))
+                self.assertEqual(done, (status, written, told.format(NOWHERE)))
+                self.assertFalse((self.folder / "-").exists())
+
+    def test_a_picture_that_is_not_written_is_told(self) -> None:
+        for words, status, reason in UNWRITTEN:
+            for path, name in (("o", "o"), ("-", NOWHERE)):
+                done = self.done(f"report {words} --picture {path}")
+                told = f"vga-report: {reason}, so {name} isn't written\n"
+                self.assertEqual(done[0], status, words)
+                self.assertIn(told, done[2])
+                self.assertFalse((self.folder / path).exists())
