@@ -82,6 +82,9 @@ class Kept(Folder):
         os.chmod(self.recorded / "trace.gz", 0o600)
         self.keep()
         self.assertEqual(self.zip.read_bytes(), first)
+        told = f"standard output: {len(first):,} bytes\n"
+        done = run_tool("vga-trace", "keep", self.recorded, "-")
+        self.assertEqual(done, (0, first, told))
         before = self.judge(self.recorded)
         status, output, said = self.judge(self.zip)
         told = "all is as it was kept: the verdict and 1 picture\n"
