@@ -281,6 +281,16 @@ class Scripts(Made):
                 sums = card.read(("sums",), {})["sums"]
                 self.assertEqual(sums[:4], [zlib.crc32(plane) for plane in planes], kind)
 
+    def test_the_places_of_both_bytes_of_a_word_are_listed(self) -> None:
+        firsts = (0xA0000, 0xA0000, 0xB0000, 0xB8000)
+        for kind, name in (("write-words", "putw"), ("read-words", "getw")):
+            for element in self.elements(kind, 40):
+                for state in (element[INITIAL], element[FINAL]):
+                    begin = element[name][0] - firsts[state["gfx"][6] >> 2 & 3]
+                    places = {begin + at & 0xFFFF for at in range(2)}
+                    listed = {place[0] for place in state["planes"]}
+                    self.assertLessEqual(places, listed, element["name"])
+
     def test_entries_that_are_not_listed_are_as_a_mode_set_leaves_them(self) -> None:
         with SteppedCard(load(), Path(FONTS).read_bytes()) as card:
             for mode in (0, 3, 0x12, 0x13):
