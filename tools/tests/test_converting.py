@@ -75,7 +75,7 @@ class Passing(unittest.TestCase):
                 Trouble, "^trace:1: the first cycle has no time, and time"
             ):
                 listed(b"- w p 3C2 67 1\n", **wanted)
-            told = ["1 cycles have no time, and come without a pause"]
+            told = ["1 cycle has no time, and comes without a pause"]
             self.assertEqual(warned(BEGIN + b"- r p 3DA 0 1\n", **wanted), told)
 
     def test_a_frame_before_each_change_of_the_start_address(self) -> None:
@@ -249,7 +249,7 @@ REFUSED_BY_KIND = [
     "  refused         1 E2 NotInProfile: in port 3C7 (first at step 6)",
 ]
 DIFFERING_BY_KIND = [
-    "5 steps, 0 refused, 1 reads answered, 1 differ",
+    "5 steps, 0 refused, 1 read answered, 1 differs",
     "  read            1 in port 3C1 index 10",
     "  differ          1 in port 3C1 index 10 (first at step 4: traced 00, answered 01)",
 ]

@@ -256,7 +256,7 @@ class Recorded(Folder):
         self.assertRegex(
             lines[-1], r"^screen 1 at \d+\.\d s, after cycle 1: equal, 3x2, six bits a component$"
         )
-        self.assertEqual(lines[0], "1 cycles, 8 steps, 16 bytes: 7 frame, 1 out")
+        self.assertEqual(lines[0], "1 cycle, 8 steps, 16 bytes: 7 frame, 1 out")
         self.assertEqual(lines[1], "8 steps, 0 refused, 0 reads answered, 0 differ")
         self.assertEqual(self.kept(), [*KEPT_OF_SCREEN, *KEPT])
         kept = gzip.decompress((self.into / "trace.gz").read_bytes())
@@ -397,7 +397,7 @@ class Recorded(Folder):
             status, lines, said = self.record("--key", "0.3:ret", program=program)
         told = "its trace can't be kept: No space left on device"
         self.assertEqual((status, said), (1, f"vga-trace: {told}; --polls first folds polls\n"))
-        self.assertEqual(lines[0], "1 cycles, 2 steps, 10 bytes: 1 out, 1 frame")
+        self.assertEqual(lines[0], "1 cycle, 2 steps, 10 bytes: 1 out, 1 frame")
         self.assertEqual(self.asked(), ["qmp_capabilities", "send-key ret", "quit"])
         self.assertEqual(self.note()["ended"], told)
 

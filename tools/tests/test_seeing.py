@@ -231,7 +231,7 @@ class Walked(Folder):
         program = self.answering("ok")
         walk = Walk(program, str(FONTS), Progress())
         self.assertRegex(
-            refused(list, walk.answers([TraceStep(1, 0x3C2, 0), TraceStep(11)])), "after 1 steps"
+            refused(list, walk.answers([TraceStep(1, 0x3C2, 0), TraceStep(11)])), "after 1 step:"
         )
 
     def test_cells_are_those_that_the_program_shows(self) -> None:

@@ -236,9 +236,9 @@ class JsonList:
         self._write("}")
 
 
-def counted(count: int, what: str) -> str:
-    """How many there are, as `1 step` and `2 steps`."""
-    return f"{count} {what}{'s' * (count != 1)}"
+def counted(count: int, what: str, form: str = "") -> str:
+    """How many there are, as `1 step` and `2 steps`; the form is that of the number."""
+    return f"{count:{form}} {what}{'s' * (count != 1)}"
 
 
 def teller(*files: Optional[str]) -> Callable[[str], object]:

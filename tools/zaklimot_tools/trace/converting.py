@@ -239,7 +239,9 @@ class Listing:
                 " out so"
             )
         if self._is_timed and self.trace.untimed:
-            yield f"{self.trace.untimed:,} cycles have no time, and come without a pause"
+            cycles = counted(self.trace.untimed, "cycle", ",")
+            has = "has no time, and comes" if self.trace.untimed == 1 else "have no time, and come"
+            yield f"{cycles} {has} without a pause"
 
     def _from_the_middle(self, steps: Iterator[TraceStep]) -> Iterator[TraceStep]:
         state = State()
@@ -467,11 +469,15 @@ class Written:
         """The figures."""
         length = self.text_bytes + len(self.header()) if self.is_text else self.script_bytes
         kinds = ", ".join(f"{count:,} {kind}" for kind, count in self.kinds.most_common())
-        parts = [f"{listing.trace.count:,} cycles", f"{self.steps:,} steps", f"{length:,} bytes"]
+        parts = [
+            counted(listing.trace.count, "cycle", ","),
+            counted(self.steps, "step", ","),
+            f"{length:,} bytes",
+        ]
         if self.blocks:
-            parts.append(f"{self.blocks:,} repeat{'s' * (self.blocks != 1)}")
+            parts.append(counted(self.blocks, "repeat", ","))
         if listing.trace.polls:
-            parts.append(f"{listing.trace.polls:,} polls folded")
+            parts.append(f"{counted(listing.trace.polls, 'poll', ',')} folded")
         if listing.rebuilding:
             parts.append(f"{listing.rebuilding:,} steps rebuild the state")
         return f"{', '.join(parts)}: {kinds}"
@@ -571,8 +577,9 @@ class Checked:
         )
         skipped = f", {self.skipped:,} skipped" if self.skipped else ""
         yield (
-            f"{self.steps:,} steps, {refused:,} refused, {reads:,} reads answered,"
-            f" {differing:,} differ{skipped}"
+            f"{counted(self.steps, 'step', ',')}, {refused:,} refused,"
+            f" {counted(reads, 'read', ',')} answered,"
+            f" {differing:,} differ{'s' * (differing == 1)}{skipped}"
         )
         for name, kinds in (
             ("refused", self.refused),

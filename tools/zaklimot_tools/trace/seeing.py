@@ -10,7 +10,7 @@ from typing import Iterator, Optional, Sequence
 from zaklimot.format import Picture
 from zaklimot_tools.core.files import STANDARD, files, name_of
 from zaklimot_tools.core.progress import Progress
-from zaklimot_tools.core.streams import write_file, write_name
+from zaklimot_tools.core.streams import counted, write_file, write_name
 from zaklimot_tools.core.trouble import Trouble
 from zaklimot_tools.images.png import Shape, save_png
 from zaklimot_tools.script.program import found_program
@@ -85,7 +85,7 @@ def _cycle_of_picture(walk: Walk, path: str, wanted: int) -> int:
                 count += 1
                 if count == wanted:
                     return cycle
-    raise Trouble(f"it has {count} pictures, and no picture {wanted}", name_of(path))
+    raise Trouble(f"it has {counted(count, 'picture')}, and no picture {wanted}", name_of(path))
 
 
 def _framed(steps: Steps) -> Iterator[Item[int]]:

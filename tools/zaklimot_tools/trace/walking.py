@@ -13,7 +13,7 @@ from typing import BinaryIO, Generic, Iterable, Iterator, Optional, Sequence, Ty
 from zaklimot import format
 from zaklimot.format import HEADERS, MOST_BYTES, MOST_STEPS, Answer
 from zaklimot_tools.core.progress import Progress
-from zaklimot_tools.core.streams import writing
+from zaklimot_tools.core.streams import counted, writing
 from zaklimot_tools.core.trouble import Trouble
 from zaklimot_tools.report.report import Report
 from zaklimot_tools.script.program import BuiltProgram, fault_of
@@ -160,7 +160,9 @@ class Walk:
                 asked = next(rest, None)
         if outcome.status or count != part.steps:
             ended = f"it ended with status {outcome.status}"
-            raise Trouble(f"{ended} after {count:,} steps: {fault_of(outcome)}", self._program)
+            raise Trouble(
+                f"{ended} after {counted(count, 'step', ',')}: {fault_of(outcome)}", self._program
+            )
 
 
 def _with_state(items: Iterable[TraceStep]) -> Iterator[Item[None]]:
