@@ -382,17 +382,18 @@ class Drawing(Folder):
         image = self.write("image", ppm_of([[RED] * 320] * 200))
         script = self.folder / "script"
         picture = self.folder / "picture"
-        words = ("script", image, script, "--mode", "13", "--picture", picture)
-        figures = run_tool("vga-picture", *words)[1].decode()
+        places = ("script", image, script, "--mode", "13", "--picture", picture)
+        figures = run_tool("vga-picture", *places)[1].decode()
         self.assertRegex(figures, r"^mode 13: .* steps, .*\n$")
         written = script.read_bytes(), picture.read_bytes()
-        for places, wanted in (
-            ((script, "--picture", picture), (0, figures.encode(), "")),
-            (("-", "--picture", picture), (0, written[0], figures)),
-            ((script, "--picture", "-"), (0, written[1], figures)),
-        ):
-            done = run_tool("vga-picture", "script", image, "--mode", "13", *places)
-            self.assertEqual(done, wanted, places)
+        cases: tuple[tuple[str | Path, str | Path, tuple[int, bytes, str]], ...] = (
+            (script, picture, (0, figures.encode(), "")),
+            ("-", picture, (0, written[0], figures)),
+            (script, "-", (0, written[1], figures)),
+        )
+        for first, second, wanted in cases:
+            words = ("script", image, first, "--mode", "13", "--picture", second)
+            self.assertEqual(run_tool("vga-picture", *words), wanted)
         self.assertEqual((script.read_bytes(), picture.read_bytes()), written)
 
     def test_the_ground_behind_what_is_transparent(self) -> None:

@@ -182,13 +182,13 @@ class Beams(unittest.TestCase):
     # Four lines of five characters of eight dots, so 40 dots a line and 160 a frame.
     SHAPE = FrameShape(4, 5, 8)
 
-    def after(self, place: tuple[int, int, int], dots: int) -> tuple[int, tuple[int, int, int]]:
+    def after(self, place: tuple[int, int, int], dots: int) -> tuple[int, BeamPlace]:
         """The frame and the place of a beam that goes on by so many dots."""
         beam = Beam()
         beam.frame = 31
         beam.place = BeamPlace(*place)
         beam.advance(dots, self.SHAPE, [0] * 25)
-        return beam.frame, tuple(beam.place)
+        return beam.frame, beam.place
 
     def test_places_after_some_dots(self) -> None:
         hold(
