@@ -452,6 +452,18 @@ class Rules(Made):
         names = [rule.name for rule in RULES]
         self.assertEqual(len(names), len(set(names)))
 
+    def test_the_palette_has_sixteen_registers(self) -> None:
+        # Those behind it change while it is shown, too.
+        rule = next(one for one in RULES if "locks the palette" in one.name)
+        behind = "10 to 14 change at any time"
+        indexes: dict[bool, set[int]] = {False: set(), True: set()}
+        for element in self.elements("attribute-controller", 400):
+            index = element[INITIAL]["attr_index"] & 0x1F
+            for one, branch in branches_shown(element):
+                if one is rule:
+                    indexes[branch == behind].add(index)
+        self.assertEqual(indexes, {False: set(range(0x10)), True: set(range(0x10, 0x15))})
+
     def test_elements_show_each_rule(self) -> None:
         shown = {
             rule.name
