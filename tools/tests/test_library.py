@@ -1,4 +1,4 @@
-"""The library for C: its header, its files and its page; the packages; that its tests can fail."""
+"""The library for C: its header, its files and its page; the packages; that tests can fail."""
 
 import json
 import os
