@@ -1,0 +1,294 @@
+"""How a run is shown, and kept for machines: options together, pictures, JSON, XML and watching."""
+
+from __future__ import annotations
+
+import json
+import os
+import signal
+import sys
+import unittest
+from unittest import mock
+from xml.etree import ElementTree
+
+from zaklimot.format import Answer, Picture
+from zaklimot_tools.report.expecting import is_as_expected
+from zaklimot_tools.report.listing import chosen
+
+from .test_run import Fake
+from .tools import PROGRAM, RED, begin, hold, hold_refused, png_rows, run_tool, want_program
+
+# What the fake program's frame answers, and its dump of two lines.
+DIGEST = "cc3cef99328e895f73a6088030faaab2"
+LINES_DIGEST = "dd8c6a395b5dd36c56d23275028f526c"
+WHY = "No part of the adapter decodes port 060."
+DOTS = Picture.of_dots(9, 1, RED * 4 + bytes(15))
+CALLED = "ax=0003 bx=0000 cx=0D0E dx=0000"
+# Answers with the words of their steps, what is expected, and whether it is met.
+EXPECTED = (
+    *(
+        (Answer(1, 1, answer), expected, words, is_met)
+        for answer, words, expected, is_met in (
+            ("ok", "out 3C2 1", "OK", True),
+            ("55", "get 0", "5", False),
+            ("55", "get 0", "", False),
+            ("55", "get 0", "*", True),
+            ("5F", "get 0", "5f", True),
+            # A number alone is a refusal, but after a step that reads.
+            ("E1 NotDecoded", "OUT 60 1", "e1", True),
+            ("E1 NotDecoded", "out 60 1", "E2", False),
+            ("E1 NotDecoded", "INW 60", "E1", False),
+            ("E1 NotDecoded", "in 60", "e1 notdecoded", True),
+            ("E12 TooFar", "advance 9", "E1", False),
+            ("E12 TooFar", "advance 9", "E12", True),
+            # Registers of a call, whole ones, in any order.
+            (CALLED, "int", "cx=0d0e", True),
+            (CALLED, "int", "dx=0000 ax=0003", True),
+            (CALLED, "int", "cx=0D0", False),
+            (CALLED, "int", "ax=0003 cx=0D0F", False),
+            (CALLED, "int", "ax=0003 twice", False),
+        )
+    ),
+    *(
+        (Answer(1, 1, "picture 37", (), DOTS), expected, "frame", is_met)
+        for expected, is_met in (
+            ("picture 9x1", True),
+            ("picture 9x2", False),
+            (f"picture 9x1 {DIGEST}", True),
+            (f"picture 9x1 {DIGEST[:4]}...", True),
+            (f"picture 9x1 {DIGEST[:4]}", False),
+            ("picture 9x1 cc3d...", False),
+            ("picture 37", False),
+        )
+    ),
+    *(
+        (Answer(1, 1, "a", ("b",)), expected, "show regs", is_met)
+        for expected, is_met in (
+            (f"2 lines {LINES_DIGEST}", True),
+            ("2 lines...", True),
+            ("a", False),
+        )
+    ),
+)
+
+
+class Expectations(unittest.TestCase):
+    def test_which_answers_meet_them(self) -> None:
+        hold(self, is_as_expected, EXPECTED)
+
+
+@unittest.skipIf(sys.platform == "win32", "a script is a program on POSIX")
+class Together(Fake):
+    """Options beside one another."""
+
+    def pictures(self, *words: str) -> list[str]:
+        """The names of the pictures that a run with these words leaves."""
+        self.write("t.vga", "frame\nget 0 ; = 55\nframe\nframe ; = ragged\n")
+        folder = self.folder / "p"
+        for path in folder.glob("*"):
+            path.unlink()
+        self.run_script("--pictures", "p", *words, path="t.vga")
+        return sorted(path.name for path in folder.glob("*"))
+
+    def test_pictures_of_the_steps_that_only_names(self) -> None:
+        all_of_them = ["0001.png", "0003.png", "0004.png"]
+        hold(
+            self,
+            self.pictures,
+            (
+                (all_of_them,),
+                ("--only", "3", ["0003.png"]),
+                ("--only", "2", []),
+                ("--only", "3-4", "--quiet", ["0003.png", "0004.png"]),
+                ("--only", "differs", "--json", "-", ["0004.png"]),
+                # They are written beside what is told of answers, too.
+                ("--diff", all_of_them),
+                ("--only", "1", "--diff", ["0001.png"]),
+                ("--bless", all_of_them),
+            ),
+        )
+
+    def test_pictures_in_other_sizes(self) -> None:
+        for words, size in (
+            ((), (9, 1)),
+            (("--scale", "2"), (18, 2)),
+            (("--scale", "2", "--quiet"), (18, 2)),
+            # 4:3 of 9 dots is nearest to 7 rows.
+            (("--aspect",), (9, 7)),
+        ):
+            self.pictures(*words)
+            data = (self.folder / "p" / "0003.png").read_bytes()
+            self.assertEqual(png_rows(data)[:2], size, words)
+
+    def test_blocks_of_colour_are_as_wide_as_the_terminal_at_most(self) -> None:
+        for columns, width in (("4", 4), ("200", 9)):
+            with mock.patch.dict(os.environ, COLUMNS=columns):
+                output = self.run_text("get 0\nframe\n", "--show")[1]
+            shown = [line.count("\u2580") for line in output.splitlines() if "\u2580" in line]
+            self.assertEqual(set(shown), {width})
+
+    def test_what_only_can_not_mean(self) -> None:
+        hold_refused(
+            self,
+            chosen,
+            (
+                ("0", "^--only 0: steps are counted from 1$"),
+                ("0-3", "^--only 0-3: steps are counted from 1$"),
+                ("5-2", r"^--only 5-2: the range ends before it begins: 2-5\?$"),
+                ("1,reads", "^--only has numbers .*, and not 'reads'$"),
+            ),
+        )
+
+    def test_steps_of_bytes_and_their_lines(self) -> None:
+        want_program()
+        data = bytes.fromhex("5647415301 01C20363 03CC03 0B")
+        words = ("run", self.write("s.bin", data), "--vga", PROGRAM)
+        self.assertEqual(
+            run_tool("vga-report", *words),
+            (
+                0,
+                (
+                    b"  line   step  step as understood  answer\n"
+                    b"     1      1  out 3C2 63          ok\n"
+                    b"     2      2  in 3CC              63\n"
+                    b"     3      3  frame               picture 9x1 8f4a7758d19428aa7b8da8bb8fc0c974"
+                    b"\n3 steps, 1 picture\n"
+                ),
+                "",
+            ),
+        )
+
+
+@unittest.skipIf(sys.platform == "win32", "a script is a program on POSIX")
+class Written(Fake):
+    """Answers that are written into a script."""
+
+    def blessed(self, text: str) -> tuple[str, str]:
+        """What is told, and the script then."""
+        status, output, said = self.run_text(text, "--bless")
+        self.assertEqual((status, said), (0, ""))
+        return output, (self.folder / "t.vga").read_text()
+
+    def test_columns_and_comments_stay(self) -> None:
+        one = "t.vga:1: nothing -> E6\nt.vga: 1 answer written\n"
+        dump = f"t.vga:1: 3 lines -> 2 lines {LINES_DIGEST}\nt.vga: 1 answer written\n"
+        new = f"show regs ; = 2 lines {LINES_DIGEST}\n;| a\n;| b\n"
+        hold(
+            self,
+            self.blessed,
+            (
+                ("get 0\t; why\n", (one, "get 0\t; = E6 ; why\n")),
+                ("get 0   ;why", (one, "get 0   ; = E6 ; why")),
+                # The lines of the old dump go, and no others.
+                (
+                    "show regs ; = 3 lines\n;| x\n  ;| y\n;| z\n; more\n;| kept\nout 3C2 1\n",
+                    (dump, f"{new}; more\n;| kept\nout 3C2 1\n"),
+                ),
+            ),
+        )
+
+
+JSON_TEXT = "; One.\nget 0 ; = 55\nframe ; = *\nin 60\nshow regs\nout 3C2 1\n"
+JSON_STEPS: list[dict[str, object]] = [
+    {"line": 2, "words": "GET 0", "answer": "E6", "expected": "55", "met": False},
+    {
+        "line": 3,
+        "words": "FRAME",
+        "answer": f"picture 9x1 {DIGEST}",
+        "picture": {"size": "9x1", "md5": DIGEST},
+        "expected": "*",
+        "met": True,
+    },
+    {
+        "line": 4,
+        "words": "IN 60",
+        "answer": "E1 NotDecoded",
+        "refused": "E1 NotDecoded",
+        "why": WHY,
+    },
+    {
+        "line": 5,
+        "words": "SHOW REGS",
+        "answer": f"2 lines {LINES_DIGEST}",
+        "lines": ["a", "b"],
+    },
+    {"line": 6, "words": "OUT 3C2 1", "answer": "ok"},
+]
+
+
+@unittest.skipIf(sys.platform == "win32", "a script is a program on POSIX")
+class Machines(Fake):
+    """What machines read."""
+
+    def told(self, *words: str) -> dict[str, object]:
+        """The JSON of a run."""
+        told: dict[str, object] = json.loads(self.run_text(JSON_TEXT, "--json", "-", *words)[1])
+        return told
+
+    def test_each_member_of_the_json(self) -> None:
+        steps = [{"step": at, **step} for at, step in enumerate(JSON_STEPS, 1)]
+        counts = {"steps": 5, "refused": 1, "pictures": 1, "expected": 2, "met": 1}
+        whole = {"script": "t.vga", "answers": steps, **counts, "wrong": 1, "trouble": None}
+        self.assertEqual(self.told(), whole)
+        # A refusal that isn't expected is one that differs.
+        steps[2] = {**steps[2], "expected": None, "met": False}
+        self.assertEqual(self.told("--strict"), {**whole, "answers": steps, "wrong": 2})
+        # The dumps of a run that is stopped stand on no line.
+        dumps = self.told("--until", "1")["answers"][1:]  # type: ignore[index]
+        names = ("regs", "beam", "latches", "bda")
+        wanted = [
+            {"step": at, "line": None, "words": f"show {name}", "answer": "look"}
+            for at, name in enumerate(names, 2)
+        ]
+        self.assertEqual(dumps, wanted)
+
+    def suite(self, path: str) -> ElementTree.Element:
+        """The XML of a run of a folder or a script."""
+        self.run_script("--junit", "junit.xml", path=path)
+        return ElementTree.parse(self.folder / "junit.xml").getroot()
+
+    def test_the_names_in_the_xml(self) -> None:
+        # A folder may be called as a script is; and those of a folder stand at its place.
+        for name in ("b.vga", "a.bin", "a/z.vga", "c.vga/d.vga", "e.vgax", "vga"):
+            self.write(f"tests/{name}", "get 0 ; = E6\n")
+        suite = self.suite("tests")
+        names = [f"tests/{name}" for name in ("a/z.vga", "a.bin", "b.vga", "c.vga/d.vga")]
+        self.assertEqual((suite.get("name"), [case.get("name") for case in suite]), ("tests", names))
+        self.assertEqual({case.get("classname") for case in suite}, {"tests"})
+        for one in (suite, *suite):
+            self.assertRegex(one.get("time") or "", r"^\d+\.\d{3}$")
+        (case,) = self.suite("tests/b.vga")
+        self.assertEqual((case.get("classname"), case.get("name")), (names[2], names[2]))
+
+    def test_what_xml_does_not_take_is_no_part_of_it(self) -> None:
+        path = self.write("bad.vga", "get 0 ; = \x1b[2J<\ufffe\n")
+        (case,) = self.suite(path)
+        told = f"{path}:1: step 1: GET 0 answers E6, not ?[2J<?"
+        self.assertEqual(case[0].get("message"), told)
+        self.assertTrue((case[0].text or "").startswith(f"{told}\n"))
+
+
+@unittest.skipIf(sys.platform == "win32", "a script is a program on POSIX")
+class Watched(Fake):
+    def test_a_folder_runs_again_when_a_script_of_it_changes_or_comes(self) -> None:
+        tests = self.folder / "tests"
+        a = self.write("tests/a.vga", "get 0\n")
+        words = ("run", tests, "--vga", self.vga, "--watch", "--fonts", self.write("fonts", ""))
+        process = begin("vga-report", *words, text=True)
+        assert process.stdout is not None and process.stderr is not None
+        with process.stdout as output, process.stderr:
+            self.addCleanup(process.wait)
+            self.addCleanup(process.kill)
+            one = f"{a}: 1 step, 0 pictures\n"
+            self.assertEqual([next(output), next(output)], [one, "1 script, 0 differ\n"])
+            # In its place, at once.
+            with open(a, "r+b", buffering=0) as stream:
+                stream.write(b"get 1\n")
+            told = [next(output) for _ in range(3)]
+            self.assertEqual(told, [f"{a} has changed\n", one, "1 script, 0 differ\n"])
+            os.rename(self.write("new", "get 0\n"), tests / "b.vga")
+            told = [next(output) for _ in range(4)]
+            other = one.replace("a.vga", "b.vga")
+            wanted = [f"{tests} has changed\n", one, other, "2 scripts, 0 differ\n"]
+            self.assertEqual(told, wanted)
+            process.send_signal(signal.SIGINT)
+            self.assertEqual(process.wait(60), 130)
