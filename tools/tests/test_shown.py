@@ -46,6 +46,9 @@ EXPECTED = (
             (CALLED, "int", "cx=0D0", False),
             (CALLED, "int", "ax=0003 cx=0D0F", False),
             (CALLED, "int", "ax=0003 twice", False),
+            # Other words are all of the answer, or none.
+            ("latches 00 55 00 00", "show latches", "latches 00", False),
+            ("beam frame 0", "show beam", "frame beam 0", False),
         )
     ),
     *(
@@ -252,7 +255,9 @@ class Machines(Fake):
             self.write(f"tests/{name}", "get 0 ; = E6\n")
         suite = self.suite("tests")
         names = [f"tests/{name}" for name in ("a/z.vga", "a.bin", "b.vga", "c.vga/d.vga")]
-        self.assertEqual((suite.get("name"), [case.get("name") for case in suite]), ("tests", names))
+        self.assertEqual(
+            (suite.get("name"), [case.get("name") for case in suite]), ("tests", names)
+        )
         self.assertEqual({case.get("classname") for case in suite}, {"tests"})
         for one in (suite, *suite):
             self.assertRegex(one.get("time") or "", r"^\d+\.\d{3}$")

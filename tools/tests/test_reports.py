@@ -1,0 +1,139 @@
+"""Reports that are cut into pictures and compared: which steps are taken, where each word goes, and
+what two outputs have."""
+
+from __future__ import annotations
+
+import os
+from functools import partial
+from unittest import mock
+
+from zaklimot_tools.report import page
+
+from .tools import BLACK, RED, WHITE, Folder, hold, hold_undone, png_rows, ppm, report, run_tool
+
+PICTURE = ppm(2, 1, RED + BLACK)
+OTHER = ppm(2, 1, RED + WHITE)
+MARK = b"\xff\x20\x20"
+DARK = b"\x55\0\0"
+
+
+class Reports(Folder):
+    def setUp(self) -> None:
+        super().setUp()
+        self.report("one", PICTURE, "ok", PICTURE, "55", OTHER)
+        self.report("two", PICTURE, "ok", OTHER, "56", ppm(2, 1, BLACK * 2))
+        self.report("byte", "ok", "55")
+        self.report("bytes", "ok", "56")
+
+    def done(self, words: str, given: bytes = b"") -> tuple[int, bytes, str]:
+        """Exit status, output and standard error of the command in the folder."""
+        prepare = partial(os.chdir, self.folder)
+        return run_tool("vga-report", *words.split(), given=given, prepare=prepare)
+
+    def test_pictures_of_some_steps(self) -> None:
+        lacking = "vga-report: one: step {} has no picture; there are 5 steps\n".format
+        hold(
+            self,
+            self.done,
+            (
+                # In the order of the report, each once.
+                ("pictures one p --step 3 --step 1", (0, b"p/0001.png\np/0003.png\n", "")),
+                ("pictures one p --step 3 --step 3", (0, b"p/0003.png\n", "")),
+                # The first that is lacking is told.
+                ("pictures one p --step 9 --step 4 --step 5", (2, b"p/0005.png\n", lacking(4))),
+                ("pictures one p --step 9", (2, b"", lacking(9))),
+                # What stands behind the last of them is not read.
+                ("pictures - p --step 1", report(PICTURE) + b"2", (0, b"p/0001.png\n", "")),
+                (
+                    "pictures - p",
+                    b"1 ok\n2 E\n",
+                    (2, b"", "vga-report: standard input: no step has a picture\n"),
+                ),
+            ),
+        )
+
+    def test_a_picture_that_moves_on_standard_output(self) -> None:
+        status, whole, said = self.done("pictures one --apng - --scale 3 --step 1 --step 5")
+        self.assertEqual((status, said), (0, ""))
+        self.assertEqual(whole.count(b"fcTL"), 2)
+        self.assertEqual(png_rows(whole)[:2], (6, 3))
+        done = self.done("pictures one --apng m.png --step 5")
+        self.assertEqual(done, (0, b"m.png: 1 frame, 0.014 seconds\n", ""))
+
+    def test_the_first_picture_that_differs(self) -> None:
+        # All steps that differ are told, also behind that picture.
+        for words, steps in (("", 1), ("--all ", 3)):
+            status, told, _ = self.done(f"compare one two {words}--picture marked.png")
+            self.assertEqual((status, told.count(b" differs\n")), (1, steps))
+            rows = png_rows((self.folder / "marked.png").read_bytes())
+            self.assertEqual(rows, (2, 1, [DARK + MARK]))
+        # It may come after other steps that differ.
+        self.report("late", "55", PICTURE)
+        self.report("later", "56", OTHER)
+        self.assertEqual(self.done("compare late later --picture late.png")[0], 1)
+        self.assertEqual(png_rows((self.folder / "late.png").read_bytes())[2], [DARK + MARK])
+
+    def test_a_page_of_steps_that_differ(self) -> None:
+        for words, status, told, said in (
+            ("byte byte", 0, "byte and byte agree: ", "0 steps differ; 2 steps, 0 pictures"),
+            ("byte bytes", 1, "step 2 differs\n", "1 step differs; 2 steps, 0 pictures"),
+            ("one two", 1, "step 3 differs\n", "3 steps differ; 5 steps, 3 pictures"),
+        ):
+            done = self.done(f"compare {words} --html page.html")
+            self.assertEqual((done[0], done[1].decode().count(" differs\n")), (status, status))
+            self.assertTrue(done[1].decode().startswith(told))
+            text = (self.folder / "page.html").read_text("utf-8")
+            self.assertIn(said, text)
+            for name in words.split():
+                self.assertIn(f">{name}</th>", text)
+        self.assertEqual(self.done("compare one two --all --html p")[1].count(b" differs\n"), 3)
+
+    def test_a_page_has_bounds(self) -> None:
+        for name, most, told in (
+            ("MOST_ROWS", 2, "vga-report: the page would have more than 2 rows\n"),
+            ("MOST_PICTURES", 5, "vga-report: the page would have more than 5 pictures\n"),
+        ):
+            with mock.patch.object(page, name, most):
+                status, _, said = self.done("compare one two --html page.html")
+                self.assertEqual((status, said), (2, told))
+            with mock.patch.object(page, name, most + 1):
+                self.assertEqual(self.done("compare one two --html page.html")[0], 1)
+
+    def test_a_picture_beside_an_image(self) -> None:
+        (self.folder / "image").write_bytes(OTHER)
+        dots = "  1 of 2 dots differ, the first is dot 1 of row 0: 000000, not 3F3F3F\n"
+        differ = f"step 3 and {{}} differ: 2x1, six bits a component\n{dots}".format
+        hold(
+            self,
+            self.done,
+            (
+                ("compare-picture one 3 -", OTHER, (1, differ("standard input").encode(), "")),
+                (
+                    "compare-picture - 3 image",
+                    (self.folder / "one").read_bytes(),
+                    (1, differ("image").encode(), ""),
+                ),
+                # Nothing is written of pictures that agree.
+                (
+                    "compare-picture one 5 image --picture same.png",
+                    (
+                        0,
+                        b"step 5 and image agree: 2x1, six bits a component\n",
+                        "vga-report: no dots differ, so same.png isn't written\n",
+                    ),
+                ),
+            ),
+        )
+        self.assertFalse((self.folder / "same.png").exists())
+        self.done("compare-picture one 3 image --picture marked.png --scale 2")
+        marked = png_rows((self.folder / "marked.png").read_bytes())
+        self.assertEqual(marked, (4, 2, [DARK * 2 + MARK * 2] * 2))
+        # What is told stands beside a picture that goes to standard output.
+        status, written, said = self.done("compare-picture one 3 image --picture -")
+        self.assertEqual((status, said), (1, differ("image")))
+        self.assertEqual(png_rows(written), (2, 1, [DARK + MARK]))
+        hold_undone(
+            self,
+            self.done("compare-picture one 4 image"),
+            "^vga-report: one: step 4 has no picture; there are 5 steps\n$",
+        )
