@@ -10,7 +10,7 @@ from typing import Callable, Sequence
 from zaklimot.format import REFUSALS, Answer, Step
 from zaklimot_tools import TOP
 from zaklimot_tools.explain.faults import explained
-from zaklimot_tools.explain.mistakes import mistake_in
+from zaklimot_tools.explain.mistakes import Mistake, marked_lines, mistake_in
 from zaklimot_tools.explain.registers import MODES, OF_CALLS, Registers, why_refused
 from zaklimot_tools.explain.wordings import WORDINGS
 from zaklimot_tools.picture.mode import MODES as DRAWN
@@ -112,6 +112,23 @@ class Mistakes(unittest.TestCase):
         self.assertGreaterEqual(len(LINES), 60)
         hold(self, mistake_in, ((line, None) for line in TABLE["good"]))
 
+    def test_a_long_line_is_shown_around_the_mistake(self) -> None:
+        # 100 characters of it, of which 50 stand before the mistake.
+        line = "".join(f"{at:4} " for at in range(61))
+        hold(
+            self,
+            lambda line, at, width: list(marked_lines(line, Mistake(at, width, ""))),
+            (
+                (line[:100], 98, 2, [line[:100].rstrip(), 98 * " " + "^^"]),
+                (line[:101], 3, 1, [line[:100].rstrip() + "..", "   ^"]),
+                (line[:300], 251, 3, [".." + line[201:300].rstrip(), 52 * " " + "^^^"]),
+                (line[:302], 251, 3, [".." + line[201:301].rstrip() + "..", 52 * " " + "^^^"]),
+                # The mark ends with what is shown.
+                ("x" * 300, 0, 300, ["x" * 100 + "..", "^" * 100]),
+                ("\tout\t0x3C4", 5, 5, [" out 0x3C4", "     ^^^^^"]),
+            ),
+        )
+
     def test_the_program_refuses_each(self) -> None:
         texts = {f"line-{at}": line.encode() + b"\n" for at, (line, _, _) in enumerate(LINES)}
         texts.update({f"text-{at}": text for at, (text, _) in enumerate(TEXTS)})
@@ -164,6 +181,14 @@ FAULTS_TOLD = (
     # What is not known.
     ("F7 BadLine(1)", "s:1", "refused, and I can't say why\n  frame", b"frame\n"),
     ("F14 Strange(3)", "s", "refused, and I can't say why", b""),
+    # What the system refuses the program.
+    (
+        "F9 WriteFault",
+        "s",
+        "what the program writes could not be written: the disk may be full",
+        b"",
+    ),
+    ("F10 OutOfMemory", "s", "the system gave the program no more memory", b""),
     # Fonts of another length.
     ("F1 FontSize", "f", f"the font file has 3 {TOLD_LENGTH}", b"", b"123"),
     (

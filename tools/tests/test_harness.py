@@ -1,0 +1,147 @@
+"""Harnesses that the suite is held against: the places in their words, their limits, and lists that
+stand elsewhere; and the program that tools run."""
+
+from __future__ import annotations
+
+import os
+import shlex
+import sys
+import unittest
+from functools import partial
+from pathlib import Path
+from unittest import mock
+
+from zaklimot_tools.script import launching, program
+from zaklimot_tools.script.program import BuiltProgram, built_program
+
+from .tools import TOOLS, Folder, patched, refused, run_tool
+
+ADAPTER = shlex.join([sys.executable, str(TOOLS / "tests" / "adapter.py")])
+CALLED = "1 ax=0003 bx=0000 cx=0000 dx=0000\n"
+
+
+@unittest.skipIf(sys.platform == "win32", "a script is a program on POSIX")
+class Harnesses(Folder):
+    def setUp(self) -> None:
+        super().setUp()
+        for name in ("one", "two", "more/three"):
+            self.write(f"{name}.vga", "get 0\n")
+            self.write(f"{name}.txt", "1 FF\n")
+        self.write("list.txt", "one\ntwo\nmore/three\n")
+
+    def done(self, *words: str, given: bytes = b"") -> tuple[int, str, str]:
+        """Exit status, output and standard error of the tool in the folder."""
+        prepare = partial(os.chdir, self.folder)
+        status, output, said = run_tool("vga-report", *words, given=given, prepare=prepare)
+        return status, output.decode(), said
+
+    def test_cases_in_no_folder(self) -> None:
+        table = (
+            ". (2 cases: 2 agree)\n  agrees   one\n  agrees   two\n"
+            "more (1 case: 1 agree)\n  agrees   more/three\n3 cases: 3 agree\n"
+        )
+        done = self.done("suite", f"{ADAPTER} {{script}}", "--list", "list.txt")
+        self.assertEqual(done, (0, table, ""))
+
+    def test_places_within_words(self) -> None:
+        for place, told in (
+            ("--in={script}", "1 FF"),
+            ("--in={name}.vga", "1 FF"),
+            # A place that is none stays as it is.
+            ("--in={script}{untils}", "1 0"),
+        ):
+            command = f"sh -c 'test -f \"${{1#--in=}}\" && echo 1 FF || echo 1 0' {{name}} {place}"
+            words = ("suite", command, "--list", "list.txt", "--only", "one")
+            self.assertEqual(self.done(*words)[0], 0 if told == "1 FF" else 1, place)
+
+    def test_a_report_that_is_too_long(self) -> None:
+        for count, told in (
+            (1 << 20, "one: its report:1: the line is longer than any answer\n"),
+            ((1 << 20) + 1, "one: the command wrote more than 1 MiB\n"),
+        ):
+            command = f"sh -c 'head -c {count} /dev/zero' {{script}}"
+            words = ("--list", "list.txt", "--only", "one", "--output", "1")
+            status, output, _ = self.done("suite", command, *words)
+            self.assertEqual(status, 2)
+            self.assertIn(told, output)
+
+    def test_a_list_from_standard_input(self) -> None:
+        # Its names are those of the current folder.
+        words = ("scripts", "made", "--list", "-", "--except", "t")
+        done = self.done(*words, given=b"one\ntwo\nmore/three\n")
+        names = ("one.vga", "more/three.vga", "list.txt")
+        self.assertEqual(done, (0, "".join(f"made/{name}\n" for name in names), ""))
+        done = self.done("scripts", "none", "--list", "-", given=b"one\n\na b\n")
+        self.assertEqual(done, (2, "", "vga-report: standard input:3: no case: 'a b'\n"))
+
+    def test_a_machine_answers_calls(self) -> None:
+        self.write("call.vga", "int ax=3\nget 0\n")
+        self.write("call.txt", CALLED + "2 E1 NotDecoded\n")
+        self.write("late.vga", "get 0\nint ax=3\n")
+        self.write("late.txt", "1 E1 NotDecoded\n2" + CALLED[1:])
+        self.write("list.txt", "call\nlate\n")
+        done = self.done("scripts", "made", "--list", "list.txt", "--machine")
+        self.assertEqual(done, (0, "made/call.vga\nmade/list.txt\n", ""))
+        self.assertEqual((self.folder / "made/call.vga").read_text(), "int ax=3\n")
+
+    def test_a_long_step_is_told_by_its_front(self) -> None:
+        step = "int ax=1300 cx=0040 block " + 64 * "41"
+        self.write("long.vga", f"{step}\n")
+        self.write("long.txt", CALLED)
+        self.write("list.txt", "long\n")
+        output = self.done("suite", f"{ADAPTER} {{script}}", "--list", "list.txt")[1]
+        self.assertIn(f"long: step 1: ok, not {CALLED[2:-1]} (`{step[:60]}`, long.vga:1)\n", output)
+
+
+@unittest.skipIf(sys.platform == "win32", "a script is a program on POSIX")
+class Programs(Folder):
+    def test_one_that_is_named_lies_in_the_path_or_in_its_folder(self) -> None:
+        path = self.program("bin/mine", "#!/bin/sh\n")
+        other = self.program("mine", "#!/bin/sh\n")
+        with mock.patch.dict(os.environ, PATH=str(Path(path).parent)):
+            self.assertEqual(built_program("mine"), path)
+            self.assertEqual(built_program(other), other)
+            self.assertEqual(built_program("none"), "none")
+
+    def test_the_command_becomes_the_program(self) -> None:
+        with patched(launching, {"found_program": lambda instead: "/bin/sh"}):
+            # A shell without other words shows how it is called.
+            self.assertEqual(run_tool("vga", "-c", 'echo "$0"; exit 3'), (3, b"vga\n", ""))
+            done = run_tool("vga", "-c", "cat; echo $0 $1 >&2", "a", "b  c", given=b"in")
+            self.assertEqual(done, (0, b"in", "a b c\n"))
+
+    def test_steps_that_take_more_bytes_than_any(self) -> None:
+        vga = self.program("vga", "#!/bin/sh\necho frame\n")
+        for most, is_refused in ((6, False), (5, True)):
+            with mock.patch.object(program, "MOST_PRINTED", most):
+                with open(self.folder / "printed", "wb") as printed:
+                    work = partial(BuiltProgram(vga).print_steps, Path("s"), True, printed)
+                    if is_refused:
+                        told = f"{vga}: vga dis writes more than any script takes"
+                        self.assertEqual(refused(work), told)
+                    else:
+                        work()
+
+    def test_what_a_run_without_proofs_is_given_and_how_it_ends(self) -> None:
+        rt = self.program(
+            "bin/rt",
+            "#!/bin/sh\necho \"$*\" >> asked\necho 'vga: F7 BadLine(1)' >&2\n"
+            "echo run=ended status=1 runners=1 >&2\n",
+        )
+        crate = Path(self.write("crate/src/main.rt", "")).parents[1]
+        self.write("s.vga", "move\n")
+        self.write("s.bin", b"VGAS\x01\x0b")
+        path = f"{Path(rt).parent}{os.pathsep}{os.environ['PATH']}"
+        prepare = partial(os.chdir, self.folder)
+        with mock.patch.dict(os.environ, PATH=path), mock.patch.object(program, "CRATE", crate):
+            for words in (("s.vga",), ("s.bin", "--until", "1")):
+                given = ("run", *words, "--try", "--fonts", "f")
+                status, _, said = run_tool("vga-report", *given, prepare=prepare)
+                self.assertEqual(status, 2)
+                self.assertIn(f"vga-report: {words[0]}:1: F7 BadLine(1): ", said)
+        data = f"try --data script={self.folder}/{{}} --data fonts={self.folder}/f -- ".format
+        wanted = (
+            f"{data('s.vga')}go script --fonts fonts\n"
+            f"{data('s.bin')}run script --fonts fonts --until 1\n"
+        )
+        self.assertEqual((crate / "asked").read_text(), wanted)
