@@ -16,9 +16,11 @@ from random import Random
 from typing import Optional
 from unittest import mock
 
-from zaklimot.format import Picture, count_in, decimal, parse_text, steps_in
+from zaklimot.format import MOST_BYTES, Picture, count_in, decimal, parse_text, steps_in
+from zaklimot_tools.core.streams import bytes_of, read_at_most
 from zaklimot_tools.core.trouble import Trouble
 from zaklimot_tools.core.words import number_to
+from zaklimot_tools.explain.faults import read_script
 from zaklimot_tools.explain.mistakes import mistake_in
 from zaklimot_tools.floppy import image
 from zaklimot_tools.floppy.table import HEADER, NAME, VERSION, Table, table_for
@@ -131,6 +133,26 @@ class Numbers(unittest.TestCase):
             found = mistake_in(line)
             assert found is not None
             self.assertEqual(found.reason, told, line[:20])
+
+
+class Wholes(Folder):
+    """Files that are read whole."""
+
+    def test_the_most_and_one_byte_more(self) -> None:
+        most = Path(self.write("most", b"12345"))
+        more = Path(self.write("more", b"123456"))
+        for read in (bytes_of, read_at_most):
+            self.assertEqual(read(str(most), 5), b"12345")
+            self.assertEqual(refused(read, str(more), 5), f"{more}: it has more than 5 bytes")
+        self.assertEqual(refused(read_at_most, str(more), 5, "F6"), f"{more}: F6")
+
+    def test_a_script_of_the_most_bytes(self) -> None:
+        path = Path(self.write("s.vga", b""))
+        os.truncate(path, MOST_BYTES)
+        self.assertEqual(len(read_script(str(path))), MOST_BYTES)
+        os.truncate(path, MOST_BYTES + 1)
+        told = f"{path}: F6 TooLong: a script has at most 16,777,216 bytes"
+        self.assertEqual(refused(read_script, str(path)), told)
 
 
 class Runs(Fake):

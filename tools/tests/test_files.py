@@ -6,10 +6,12 @@ from __future__ import annotations
 import argparse
 import os
 import signal
+import subprocess
 import sys
 import time
 import unittest
 from pathlib import Path
+from unittest import mock
 
 from zaklimot_tools.core.files import (
     Input,
@@ -60,6 +62,19 @@ class Registry(Folder):
                 self.assertIn(BOTH.strip(), told)
         for one, other in (("o", "new"), ("-", "o"), ("/dev/null", "/dev/null"), ("d/o", "o")):
             self.assertEqual(self.taken(html=Output(one), json=Output(other)), "", (one, other))
+
+    def test_standard_output_that_is_another_output(self) -> None:
+        path, other = self.write("o", ""), self.write("p", "")
+        with open(path, "ab") as stream, mock.patch("sys.stdout", stream):
+            self.assertIn(BOTH.strip(), self.taken(json=Output("-"), junit=Output(path)))
+            self.assertIn(BOTH.strip(), self.taken(json=Output(path), junit=Output("-")))
+            self.assertEqual(self.taken(json=Output("-"), junit=Output(other)), "")
+
+    def test_each_of_several_inputs(self) -> None:
+        paths = [self.write(name, "") for name in "abc"]
+        for path in paths:
+            told = self.taken(files=[Input(one) for one in paths], report=Output(path))
+            self.assertEqual(told, f"{path}: it is read as {path}, so it isn't written")
 
     def test_a_picture_of_a_folder(self) -> None:
         folder = str(self.folder / "d")
@@ -128,6 +143,13 @@ class Registry(Folder):
         self.assertEqual((self.names(), Path(path).read_text()), (["script"], "old"))
         write_over(path, b"new", b"old")
         self.assertEqual(Path(path).read_text(), "new")
+
+    def test_names_as_long_as_a_file_may_have(self) -> None:
+        for name in ("n" * 255, "\u00e9" * 127):
+            for text in (b"old", b"new"):
+                with writing(str(self.folder / name)) as stream:
+                    stream.write(text)
+            self.assertEqual((self.folder / name).read_bytes(), b"new")
 
 
 class Tools(Fake):
@@ -266,6 +288,24 @@ class Recordings(Folder):
 
 
 class Endings(Folder):
+    def test_a_signal_that_the_caller_has_ignored(self) -> None:
+        # As `nohup` has it.
+        def ignore() -> None:
+            signal.signal(signal.SIGHUP, signal.SIG_IGN)
+
+        given = {"stdin": subprocess.PIPE, "preexec_fn": ignore}
+        process = begin("vga-report", "text", "-", **given)
+        assert process.stdin is not None and process.stdout is not None
+        with process:
+            process.stdin.write(b"".join(b"%d ok\n" % at for at in range(1, 5000)))
+            process.stdin.flush()
+            # It works by now: an answer has come.
+            self.assertEqual(process.stdout.readline(), b"1 ok\n")
+            process.send_signal(signal.SIGHUP)
+            output, said = process.communicate(b"5000 55\n", timeout=60)
+        self.assertEqual((process.returncode, said), (0, b""))
+        self.assertTrue(output.endswith(b"\n4999 ok\n5000 55\n"))
+
     def test_an_error_that_can_not_be_told(self) -> None:
         for words in (("text", "/none"), ("no-such-command",), ("run", "/none", "--vga", "/none")):
             with open("/dev/full", "wb") as full:

@@ -125,6 +125,7 @@ class Mistakes(unittest.TestCase):
                 (line[:302], 251, 3, [".." + line[201:301].rstrip() + "..", 52 * " " + "^^^"]),
                 # The mark ends with what is shown.
                 ("x" * 300, 0, 300, ["x" * 100 + "..", "^" * 100]),
+                ("x" * 300, 150, 150, [".." + "x" * 100 + "..", 52 * " " + 50 * "^"]),
                 ("\tout\t0x3C4", 5, 5, [" out 0x3C4", "     ^^^^^"]),
             ),
         )

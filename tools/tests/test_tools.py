@@ -423,6 +423,17 @@ class Lines(Folder):
         path = Path(self.write("said", 600 * "a" + "\nthe end\n"))
         self.assertEqual(said_last(path), 591 * "a" + " the end")
 
+    def test_a_line_is_taken_away_before_a_reason_is_told(self) -> None:
+        progress = Progress()
+
+        def work() -> int:
+            progress.tell("r: 9 %")
+            raise Trouble("why", "r")
+
+        with mock.patch.object(cli, "_end_output"):
+            self.assertEqual(cli.run("tool", work, progress), TROUBLE)
+        self.assertEqual(self.terminal.getvalue(), "\rr: 9 %\r      \rtool: r: why\n")
+
     def test_phases_tell_the_crate_that_is_proved(self) -> None:
         told: list[str] = []
         progress = mock.create_autospec(Progress)
