@@ -13,7 +13,7 @@ import zlib
 from functools import partial
 from pathlib import Path
 from random import Random
-from typing import Optional
+from typing import Callable, Optional
 from unittest import mock
 
 from zaklimot.format import MOST_BYTES, Picture, count_in, decimal, parse_text, steps_in
@@ -141,7 +141,8 @@ class Wholes(Folder):
     def test_the_most_and_one_byte_more(self) -> None:
         most = Path(self.write("most", b"12345"))
         more = Path(self.write("more", b"123456"))
-        for read in (bytes_of, read_at_most):
+        readers: tuple[Callable[[str, int], bytes], ...] = (bytes_of, read_at_most)
+        for read in readers:
             self.assertEqual(read(str(most), 5), b"12345")
             self.assertEqual(refused(read, str(more), 5), f"{more}: it has more than 5 bytes")
         self.assertEqual(refused(read_at_most, str(more), 5, "F6"), f"{more}: F6")
@@ -213,6 +214,7 @@ class Cases(Folder):
                 ("1-16777217 ok\n", "^e:1: steps from 1 on are to come"),
                 (f"1 picture {MANY} {MANY}x1\n", "^e:1: no picture has so many dots"),
                 ("1 picture 9 9999999x9999999\n", "^e:1: no picture has so many dots"),
+                ("1 picture 67108865 1x1\n000000\n", "^e:1: no picture has so many dots"),
                 (f"1 picture 18 1x1\n{' '.join([row] * 300)}\n", "^e:2: no row of 1 dots"),
             ),
         )

@@ -222,6 +222,14 @@ class Compiled(Cache):
         path, _ = self.found()
         self.assertEqual(self.left(), [path.parent.name, f"{path.parent.name}/vga"])
 
+    def test_a_file_system_without_locks(self) -> None:
+        # Nobody is waited for, and what is older is removed all the same.
+        self.write("cache/zaklimot/of-another-compiler/vga", "")
+        with mock.patch.object(fcntl, "flock", side_effect=OSError("no locks")):
+            path, said = self.found()
+        self.assertEqual((said.count("\n"), self.noted()), (1, 1))
+        self.assertEqual(self.left(), [path.parent.name, f"{path.parent.name}/vga"])
+
     def test_a_lock_that_somebody_keeps_is_waited_for_no_longer_than_that(self) -> None:
         self.cache.mkdir(parents=True)
         with open(self.cache / portable.LOCK, "wb") as file:

@@ -12,7 +12,9 @@ from xml.etree import ElementTree
 
 from zaklimot.format import Answer, Picture
 from zaklimot_tools.report.expecting import is_as_expected
-from zaklimot_tools.report.listing import chosen
+from zaklimot_tools.report.listing import Row, chosen
+from zaklimot_tools.report.modes import StepList
+from zaklimot_tools.report.words import parser
 
 from .test_run import Fake
 from .tools import PROGRAM, RED, begin, hold, hold_refused, png_rows, run_tool, want_program
@@ -129,6 +131,18 @@ class Together(Fake):
             shown = [line.count("\u2580") for line in output.splitlines() if "\u2580" in line]
             self.assertEqual(set(shown), {width})
 
+    def test_the_line_of_a_terminal_is_taken_away_before_a_step_is_shown(self) -> None:
+        words = parser().parse_args(["run", "s.vga"])
+        told: list[str] = []
+        progress = mock.Mock(is_wanted=True, clear=lambda: told.append("cleared"))
+        with mock.patch("zaklimot_tools.report.modes.write", told.append):
+            shown = StepList(words, told.append, progress)
+            shown.begin(18)
+            for at in (1, 2):
+                shown.take(Row(Answer(at, at, "ok"), "out 3C2 1", at), False)
+        steps = [f"     {at}      {at}  out 3C2 1           ok\n" for at in (1, 2)]
+        self.assertEqual(told[1:], ["cleared", steps[0], "cleared", steps[1]])
+
     def test_what_only_can_not_mean(self) -> None:
         hold_refused(
             self,
@@ -153,8 +167,9 @@ class Together(Fake):
                     b"  line   step  step as understood  answer\n"
                     b"     1      1  out 3C2 63          ok\n"
                     b"     2      2  in 3CC              63\n"
-                    b"     3      3  frame               picture 9x1 8f4a7758d19428aa7b8da8bb8fc0c974"
-                    b"\n3 steps, 1 picture\n"
+                    b"     3      3  frame               picture 9x1 "
+                    b"8f4a7758d19428aa7b8da8bb8fc0c974\n"
+                    b"3 steps, 1 picture\n"
                 ),
                 "",
             ),
@@ -228,13 +243,16 @@ class Machines(Fake):
         return told
 
     def test_each_member_of_the_json(self) -> None:
-        steps = [{"step": at, **step} for at, step in enumerate(JSON_STEPS, 1)]
+        steps: list[dict[str, object]] = [
+            {"step": at, **step} for at, step in enumerate(JSON_STEPS, 1)
+        ]
         counts = {"steps": 5, "refused": 1, "pictures": 1, "expected": 2, "met": 1}
-        whole = {"script": "t.vga", "answers": steps, **counts, "wrong": 1, "trouble": None}
+        head: dict[str, object] = {"script": "t.vga", "answers": steps}
+        whole = dict(head, **counts, wrong=1, trouble=None)
         self.assertEqual(self.told(), whole)
         # A refusal that isn't expected is one that differs.
-        steps[2] = {**steps[2], "expected": None, "met": False}
-        self.assertEqual(self.told("--strict"), {**whole, "answers": steps, "wrong": 2})
+        steps[2] = dict(steps[2], expected=None, met=False)
+        self.assertEqual(self.told("--strict"), dict(whole, wrong=2))
         # The dumps of a run that is stopped stand on no line.
         dumps = self.told("--until", "1")["answers"][1:]  # type: ignore[index]
         names = ("regs", "beam", "latches", "bda")
