@@ -223,6 +223,30 @@ class Animations(Folder):
         self.report("r", PICTURE, ppm(1, 1, RED))
         self.assertEqual(run("pictures", path, "--apng", moving, "--step", "2")[0], 0)
 
+    def test_the_order_of_the_frames(self) -> None:
+        # The chunks of frames but the first's dots are numbered, and all play without an end.
+        first, *others = (ppm(1, 1, dot) for dot in (RED, BLACK, WHITE))
+        path = self.report("r", "ok", first, *["ok"] * 4, *others)
+        moving = self.folder / "m.png"
+        advances = "advance 14161000\n" * 4
+        script = self.write("s.vga", f"int ax=3\nframe\n{advances}frame\nframe\n")
+        done = run("pictures", path, "--apng", moving, "--script", script)
+        self.assertEqual(done, (0, f"{moving}: 3 frames, 2.040 seconds\n".encode(), ""))
+        chunks = png_chunks(moving.read_bytes())
+        kinds = dict(chunks)
+        self.assertEqual(struct.unpack(">II", kinds[b"acTL"]), (3, 0))
+        numbers = [
+            struct.unpack(">I", body[:4])[0] for kind, body in chunks if kind in (b"fcTL", b"fdAT")
+        ]
+        self.assertEqual(numbers, [0, 1, 2, 3, 4])
+        rows = [body[4 * (kind == b"fdAT") :] for kind, body in chunks if kind in (b"IDAT", b"fdAT")]
+        self.assertEqual(
+            list(map(zlib.decompress, rows)), [b"\0\xff\0\0", bytes(4), b"\0\xff\xff\xff"]
+        )
+        # From a second on hundredths are counted: 141 frames of 404,100 dots pass before the second.
+        times = [struct.unpack(">HH", body[20:24]) for kind, body in chunks if kind == b"fcTL"]
+        self.assertEqual(times, [(201, 100), (713, 50000), (713, 50000)])
+
     def test_times_by_registers(self) -> None:
         def speed(steps: str) -> Optional[tuple[int, float]]:
             registers = Registers()
@@ -406,7 +430,23 @@ class Images(unittest.TestCase):
                     png(2, 2, b"\0" + red + white + b"\x04" + b"\0" * 3 + b"\0" * 3),
                     [red + white] * 2,
                 ),
+                # Two bits, and sixteen of a colour with its alpha.
+                (
+                    png(4, 1, b"\0\x1b", depth=2, colour=0),
+                    [b"\0\0\0\x55\x55\x55\xaa\xaa\xaa" + white],
+                ),
+                (png(1, 1, b"\0\1\xff\2\xff\3\xff\4\xff", depth=16, colour=6), [b"\1\2\3"]),
+                # A filter looks back by a dot, or a byte where a dot is less.
+                (
+                    png(2, 1, b"\1\1\0\2\0\3\0" + b"\1\0" * 3, depth=16),
+                    [b"\1\2\3\2\3\4"],
+                ),
+                (
+                    png(4, 1, b"\1\x01\x0f", depth=4, colour=3, palette=red + white),
+                    [red + white + white + red],
+                ),
                 (b"P6 # a\n1\t1\n255\n\x01\x02\x03", [b"\x01\x02\x03"]),
+                (b"P6\n1 1\n63\n\x3f\x02\x03and more", [b"\x3f\x02\x03"]),
             ],
         )
 

@@ -205,6 +205,7 @@ def of_pixels() -> Iterator[Case]:
 
 # Modes, words, the dots of an image, what is told, and the rows that are shown.
 OF_SIZES_FEW = [[(at // 60, 0, 0) for at in range(960)]] * 2
+OF_SIZES_HIGH = [[(at // 60, 0, 0)] for at in range(600)]
 OF_SIZES_BAR = (32, 0, 63)
 OTHER_SIZES = (
     (
@@ -243,6 +244,36 @@ OTHER_SIZES = (
         [[RED] * 3] * 16,
         "3x16 stretched to 45x200, with bars of 000000 to 320x200, 2",
         [[BLACK] * 137 + [RED] * 45 + [BLACK] * 138] * 200,
+    ),
+    # A row is the one under its middle.
+    (
+        "13",
+        "--scale",
+        OF_SIZES_HIGH,
+        "1x600 stretched to 320x200, 10",
+        [row * 320 for row in OF_SIZES_HIGH[1::3]],
+    ),
+    # Four by three has no bars, and the longest line is a dot high or wide.
+    (
+        "13",
+        "--fit",
+        [[RED, RED, BLUE, BLUE]] * 3,
+        "4x3 stretched to 320x200, 2",
+        [[RED] * 160 + [BLUE] * 160] * 200,
+    ),
+    (
+        "13",
+        "--fit",
+        [[RED] * 1000],
+        "1000x1 stretched to 320x1, with bars of 000000 to 320x200, 2",
+        [*[[BLACK] * 320] * 99, [RED] * 320, *[[BLACK] * 320] * 100],
+    ),
+    (
+        "13",
+        "--fit",
+        [[RED]] * 1000,
+        "1x1000 stretched to 1x200, with bars of 000000 to 320x200, 2",
+        [[BLACK] * 159 + [RED] + [BLACK] * 160] * 200,
     ),
     (
         "13",
@@ -410,6 +441,26 @@ class Drawing(Folder):
             made_of(image, "--mode", "13", "--picture", str(path), *words.split())
             rows = png_rows(path.read_bytes())[2]
             self.assertEqual(set(rows), {b"\xff\0\0" * 320 + ground * 320})
+
+    def test_what_the_comments_of_a_short_script_count(self) -> None:
+        # Ten by five cells are red; under them are rows that are alike, and a dot in a corner.
+        dots = [[RED if y < 40 and x < 80 else BLACK for x in range(320)] for y in range(200)]
+        for row in dots[80:]:
+            row[160:240] = [BLUE, BLACK] * 40
+        dots[199][319] = BLUE
+        script = made_of(ppm_of(dots), "--mode", "0D", "--short")[1].decode()
+        self.assertEqual(
+            [line for line in script.splitlines() if line.startswith(";")],
+            [
+                "; A picture of 320 by 200 pixels and 3 colours, in mode 0D, made by vga-picture."
+                " Numbers are hexadecimal, but the count of `repeat`.",
+                "; Its colours, six bits a component",
+                "; 1 areas of one colour",
+                "; 1 times rows of cells that are alike: go down by a row, draw the first",
+                "; 1 cycles for the rest",
+                "; The picture",
+            ],
+        )
 
     def test_bytes_are_the_same_script(self) -> None:
         image = png_of(some_dots(320, 200, 16))
@@ -640,6 +691,20 @@ class Colours(unittest.TestCase):
         greens = [sum(b"".join(row[1::3] for row in rows[y : y + 16])) for y in range(0, 400, 16)]
         off = [abs(green / (16 * 320) - 90 - at) for at, green in enumerate(greens)]
         self.assertLess(max(off[3:-3]), 0.5)
+
+    def test_the_pattern_of_the_ordered_dither(self) -> None:
+        # Of four by four dots of a grey a quarter, a half and three quarters are white: the dots of
+        # a darker grey, and others.
+        pattern = {
+            16: ("....", "#.#.", "....", "#.#."),
+            31: (".#.#", "#.#.", ".#.#", "#.#."),
+            47: (".#.#", "####", ".#.#", "####"),
+        }
+        for grey, wanted in pattern.items():
+            dots = [[(grey, grey, grey)] * 8] * 8
+            made = WAYS[Fewer.ORDERED](dots, [BLACK, WHITE])
+            seen = ["".join(".#"[number] for number in row) for row in made]
+            self.assertEqual(seen, [2 * row for row in wanted] * 2, grey)
 
     def test_dithers_keep_how_bright_an_area_is(self) -> None:
         dots = [[(x // 2, x // 2, x // 2) for x in range(128)] for _ in range(16)]

@@ -1,0 +1,69 @@
+"""The words of `vga-picture`: standard input, a mode's letters, a font file, dithers of few colours,
+and outputs that can't both be written."""
+
+import re
+import tempfile
+
+from zaklimot_tools.picture import steps
+from zaklimot_tools.picture.cells import FONTS_AT
+from zaklimot_tools.picture.words import main
+
+from .test_images import png
+from .test_picture import BLACK, FONT, RED, WHITE, glyph_lines, made_of, png_of, ppm_of
+from .tools import Folder, call, hold_undone, patched, run_tool
+
+
+class Words(Folder):
+    def test_an_image_of_standard_input(self) -> None:
+        image = png_of([[RED] * 320] * 200)
+        words = ("script", "-", "-", "--mode")
+        status, script, told = run_tool("vga-picture", *words, "13", given=image)
+        self.assertEqual((status, script), (0, made_of(image, "--mode", "13")[1]), told)
+        hold_undone(
+            self,
+            run_tool("vga-picture", *words, "12", given=image),
+            "^vga-picture: standard input: the image has 320x200 dots, and mode 12 has 640x480: ",
+        )
+
+    def test_a_mode_in_small_letters(self) -> None:
+        image = ppm_of([[RED] * 320] * 200)
+        self.assertEqual(made_of(image, "--mode", "0d"), made_of(image, "--mode", "0D"))
+
+    def test_colours_that_fit_are_taken_as_they_are(self) -> None:
+        # Of eight bits the six high ones: of the nearest six 03 would be 01, and 7E would be 1F.
+        row = b"\3\3\3" * 160 + b"\x7e\xff\0" * 160
+        image = png(320, 200, (b"\0" + row) * 200)
+        told, script = made_of(image, "--mode", "0D")
+        blocks = re.findall(b"^int ax=1012 .*block ([0-9A-F]+)$", script, re.M)
+        self.assertEqual(b"".join(blocks).strip(b"0"), b"1F3F")
+        for words in ("--nearest", "--dither floyd", "--dither ordered"):
+            self.assertEqual(made_of(image, "--mode", "0D", *words.split()), (told, script), words)
+
+    def test_neither_is_written_of_a_script_that_is_too_long(self) -> None:
+        image = self.write("image", ppm_of([[RED] * 320] * 200))
+        words = ("script", image, self.folder / "s", "--mode", "13", "--picture")
+        with patched(steps, {"MOST_STEPS": 2}):
+            done = call(main, *words, self.folder / "p.png")
+        hold_undone(self, done, "^vga-picture: the script would be longer than 16,777,216 bytes or")
+        self.assertEqual(self.names(), ["image"])
+
+    def test_the_glyphs_are_those_of_the_font_that_is_named(self) -> None:
+        # Of a font in which A and B have each other's glyphs, the project's A is B: white, which is
+        # colour 1, on black.
+        for rows, height in ((25, 16), (28, 14), (50, 8)):
+            glyph = glyph_lines(FONT[FONTS_AT[height] :], height, 0x41)
+            dots = [[WHITE if bit else BLACK for bit in line] * 80 for line in glyph] * rows
+            one, other = (FONTS_AT[height] + height * character for character in (0x41, 0x42))
+            font = bytearray(FONT)
+            font[one : one + height], font[other : other + height] = (
+                FONT[other : other + height],
+                FONT[one : one + height],
+            )
+            with tempfile.NamedTemporaryFile() as file:
+                file.write(font)
+                file.flush()
+                words = ("--mode", "3", "--rows", str(rows))
+                own = made_of(ppm_of(dots), *words)[1]
+                others = made_of(ppm_of(dots), *words, "--fonts", file.name)[1]
+            self.assertIn(b"\nputw B8000 0141\n", own)
+            self.assertEqual(others, own.replace(b" 0141\n", b" 0142\n"))
