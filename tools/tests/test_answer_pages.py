@@ -19,6 +19,7 @@ from .tools import Folder, run_tool
 
 run = partial(run_tool, "vga-floppy")
 # Two scripts whose answers take two pages and a part of a third.
+TITLE = "vga-floppy: the checks of all pages\n"
 LONG = {"one": "in 3CC\n" * 1000, "two": "inw 3CE\nframe\n"}
 
 
@@ -68,6 +69,30 @@ class PagesOfAnswers(Folder):
         self.assertEqual(self.read(*words)[2].rpartition(": ")[2], f"{missing}\n")
         self.assertEqual(self.read("--pages", str(self.folder / "pages")), (0, b"", ""))
         self.assertTrue(Path(path).exists())
+
+    def test_a_folder_in_a_folder_of_pages_is_passed_over(self) -> None:
+        for name in ("2.txt", "10.txt", "1/3.txt", "empty/.keep"):
+            self.write(f"pages/{name}", "noise\n")
+        alone = self.write("one.txt", "noise\n")
+        pages = str(self.folder / "pages")
+        self.assertEqual(
+            rows.files_of([alone, pages]), [alone, f"{pages}/10.txt", f"{pages}/2.txt"]
+        )
+
+    def test_a_text_with_a_mark_of_its_bytes(self) -> None:
+        path = self.write("rows.txt", b"\xef\xbb\xbf" + self.lines()[len(TITLE) :].encode())
+        self.assertEqual(self.read("--pages", path), (0, b"", ""))
+        self.assertEqual(len(self.reports()), 2)
+
+    def test_eight_places_are_told(self) -> None:
+        places = [f"page {number}" for number in range(1, 11)]
+        eight = ", ".join(places[:8])
+        for count, told in (
+            (8, eight),
+            (9, f"{eight}, and 1 other"),
+            (10, f"{eight}, and 2 others"),
+        ):
+            self.assertEqual(rows.few(places[:count]), told)
 
     def test_the_report_is_named_after_the_pages(self) -> None:
         path = self.write("rows.txt", self.lines())

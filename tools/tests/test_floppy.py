@@ -241,6 +241,22 @@ class Images(Folder):
         )
         self.assertEqual(run("read", image, reports), (2, b"", message))
 
+    def test_a_report_lies_where_its_script_lay(self) -> None:
+        # The last ending alone tells text from bytes.
+        script = {"host/one.two": script_of(b"in 3CC\n", "one"), "three": script_of(b"", "three")}
+        image, reports = self.folder / "image", self.folder / "reports"
+        self.write("scripts/host/one.two.vga", "in 3CC\n")
+        self.write("scripts/three.bin", b"VGAS\1")
+        self.write(
+            "scripts/list.txt", "host/one.two.vga fonts/zero.fnt\nthree.bin fonts/zero.fnt\n"
+        )
+        self.assertEqual(run("make", self.folder / "scripts", image), (0, b"", ""))
+        self.assertEqual(image.read_bytes(), image_for(script, "all"))
+        image.write_bytes(Machine(image.read_bytes()).image)
+        self.assertEqual(run("read", image, reports), (0, b"", ""))
+        self.assertEqual((reports / "host" / "one.two.report").read_bytes(), b"1 CC\n")
+        self.assertEqual((reports / "three.report").read_bytes(), b"")
+
     def test_one_alone_has_a_folder_too(self) -> None:
         image = self.folder / "image"
         image.write_bytes(Machine(image_for({"one": script_of(b"in 3CC\n", "one")}, "one")).image)
@@ -457,11 +473,24 @@ class Left(Folder):
         self.assertEqual(run("read", "--serial", path), (2, b"", message))
         report = b"".join(b"%d CC\n" % number for number in range(1, 17))
         self.assertEqual(run("read", "--serial", "--part", path), (0, report, ""))
+        # One that is whole is given whole, from standard input too.
+        whole = b"".join(machine(SCRIPT).record)
+        for words in ((), ("--part",)):
+            self.assertEqual(run("read", "--serial", *words, "-", given=whole), (0, REPORT, ""))
+        told = "vga-floppy: standard input: its table of steps is damaged\n"
+        self.assertEqual(run("read", "--serial", "-", given=whole[:200]), (2, b"", told))
 
     def test_registers_in_which_nothing_is_answered(self) -> None:
         with_all = b"".join(report_lines(read_image(self.image, "it"), "it", True)).splitlines()
         self.assertEqual(with_all[11], b"12 ax=DEAD bx=1234 cx=1234 dx=1234")
         self.assertEqual(with_all[12], b"13 ax=DEAD bx=1234 cx=1234 dx=1234 block 000102030405")
+        # The same is told by the option, of an image and of a record.
+        path = self.write("image", self.image)
+        report = b"".join(line + b"\n" for line in with_all)
+        self.assertEqual(run("read", "--all-registers", path), (0, report, ""))
+        record = b"".join(machine(SCRIPT).record)
+        words = ("read", "--all-registers", "--serial", "-")
+        self.assertEqual(run(*words, given=record), (0, report, ""))
 
 
 @unittest.skipUnless(
@@ -488,6 +517,17 @@ class Runs(Folder):
 
     def test_a_report_comes_back(self) -> None:
         self.assertEqual(self.run_on(path=self.path_with()), (0, REPORT, ""))
+        status, report, said = self.run_on("--all-registers", path=self.path_with())
+        self.assertEqual((status, said), (0, ""))
+        self.assertIn(b"\n12 ax=DEAD bx=1234 cx=1234 dx=1234\n", report)
+        path = self.folder / "report"
+        self.assertEqual(self.run_on(str(path), path=self.path_with()), (0, b"", ""))
+        self.assertEqual(path.read_bytes(), REPORT)
+
+    def test_a_folder_that_is_not_there_is_told_before_the_run(self) -> None:
+        told = f"vga-floppy: {self.folder}/none: there is no such folder\n"
+        done = self.run_on(f"{self.folder}/none/report", path=str(self.folder))
+        self.assertEqual(done, (2, b"", told))
 
     def test_a_full_disk_beneath_the_run(self) -> None:
         environment = {**os.environ, "PATH": self.path_with(), "TMPDIR": self.scratch}
@@ -512,6 +552,15 @@ class Runs(Folder):
                 (
                     r"printf 'no such\007 part\n'; exit 3",
                     (2, b"", "vga-floppy: dosbox: it ended before the script did: no such part\n"),
+                ),
+                (
+                    "kill -SEGV $$",
+                    (
+                        2,
+                        b"",
+                        "vga-floppy: dosbox: it ended before the script did, by SIGSEGV:"
+                        " it said nothing\n",
+                    ),
                 ),
                 (
                     None,

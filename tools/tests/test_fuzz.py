@@ -1,6 +1,7 @@
 """The fuzzer: what it makes, and that it finds each thing that may be wrong with a program."""
 
 import contextlib
+import re
 import signal
 import subprocess
 import unittest
@@ -244,6 +245,85 @@ class Fuzzing(Folder):
         )
         hold_undone(self, done, "the folder has files, and none of them is to be lost")
         self.assertEqual({file: file.read_bytes() for file in keep.iterdir()}, before)
+
+    def test_an_input_is_made_again_by_its_number(self) -> None:
+        texts, scripts = command._at_hand()
+        wanted = {
+            f"{number}{'.vga' if one.is_text else '.bin'}": one.data
+            for number in range(1, 5)
+            for one in [make(Random(f"3:{number}"), texts, scripts)]
+        }
+        self.assertEqual({Path(name).suffix for name in wanted}, {".vga", ".bin"})
+        program = self.program_that("sys.exit(3)")
+        for words, numbers in (((), (1, 2, 3, 4)), (("--first", "3", "--inputs", "1"), (3,))):
+            keep = self.folder / f"kept{len(numbers)}"
+            words = (program, "--seed", "3", "--inputs", "4", *words, "--keep", str(keep))
+            status, output, said = call(main_of("vga-fuzz"), *words)
+            self.assertEqual((status, said), (1, ""))
+            self.assertEqual(
+                re.findall(r"^input (\d+) \(", output, re.M), [str(number) for number in numbers]
+            )
+            kept = {path.name: path.read_bytes() for path in keep.iterdir()}
+            front = tuple(f"{number}." for number in numbers)
+            self.assertEqual(kept, {one: wanted[one] for one in wanted if one.startswith(front)})
+
+    def test_the_limits_of_a_run(self) -> None:
+        given: list[Limits] = []
+
+        def made(path: str, fonts: str, folder: Path, limits: Limits) -> Program:
+            given.append(limits)
+            return Program(path, fonts, folder, LIMITS)
+
+        done = mock.patch.object(Program, "feed", return_value="done")
+        with mock.patch.object(command, "Program", made), done:
+            for words in ((), ("--timeout", "2.5", "--output", "3", "--memory", "4")):
+                self.assertEqual(self.run_command(self.program_that(), *words)[0], 0)
+        self.assertEqual(
+            given,
+            [
+                Limits(seconds=60, output=64 << 20, memory=256 << 20),
+                Limits(seconds=2.5, output=3 << 20, memory=4 << 20),
+            ],
+        )
+
+    def test_answers_are_counted_without_their_places(self) -> None:
+        answers = iter(["F7 BadLine(1)", "done", "F7 BadLine(2)", "F2 BadMagic"])
+        with mock.patch.object(Program, "feed", lambda *_: next(answers)):
+            status, lines, said = self.run_command(self.program_that())
+        self.assertEqual((status, said), (0, ""))
+        self.assertEqual(
+            lines[-5:-2], ["        1 F2 BadMagic", "        2 F7 BadLine", "        1 done"]
+        )
+
+    def test_it_ends_when_its_time_is_over(self) -> None:
+        # The clock is looked at before each input: at its begin, and then each half a second.
+        moments = iter(at / 2 for at in range(100))
+        with mock.patch.object(Program, "feed", return_value="done"):
+            with mock.patch.object(command.time, "monotonic", lambda: next(moments)):
+                status, output, said = call(
+                    main_of("vga-fuzz"), self.program_that(), "--seconds", "2"
+                )
+        self.assertEqual((status, said), (0, ""))
+        self.assertTrue(output.startswith("seed 1: 3 inputs in 2 seconds\n"), output)
+
+    def test_texts_at_hand(self) -> None:
+        # A longer text is left out, and what is no script is a text alone.
+        texts = command.TEXTS[0]
+        for name, data in (
+            ("a/bad.vga", b"move\n"),
+            ("a/most.vga", b"; ".ljust(1 << 14)),
+            ("a/more.vga", b"; ".ljust((1 << 14) + 1)),
+            ("a/note.txt", b"frame\n"),
+        ):
+            self.write(f"{texts.name}/{name}", data)
+        wanted = [b"move\n", b"; ".ljust(1 << 14), TEXT.data]
+        self.assertEqual(command._at_hand(), (wanted, [HEADERS[1], SCRIPT.data]))
+
+    def test_a_program_that_makes_another_script(self) -> None:
+        path = self.program("program", GOOD.replace("\\x03\\xda", "\\x03\\xdb"))
+        status, _, said = self.run_command(path)
+        told = f"vga-fuzz: {path}: it isn't vga: it makes another script of `in 3DA`\n"
+        self.assertEqual((status, said), (2, told))
 
     def test_a_user_who_ends_it_gets_the_figures(self) -> None:
         process = begin(

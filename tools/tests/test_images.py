@@ -239,7 +239,9 @@ class Animations(Folder):
             struct.unpack(">I", body[:4])[0] for kind, body in chunks if kind in (b"fcTL", b"fdAT")
         ]
         self.assertEqual(numbers, [0, 1, 2, 3, 4])
-        rows = [body[4 * (kind == b"fdAT") :] for kind, body in chunks if kind in (b"IDAT", b"fdAT")]
+        rows = [
+            body[4 * (kind == b"fdAT") :] for kind, body in chunks if kind in (b"IDAT", b"fdAT")
+        ]
         self.assertEqual(
             list(map(zlib.decompress, rows)), [b"\0\xff\0\0", bytes(4), b"\0\xff\xff\xff"]
         )
