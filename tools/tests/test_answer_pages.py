@@ -120,6 +120,25 @@ class PagesOfAnswers(Folder):
             with self.subTest(told):
                 self.assertEqual(self.refusal(text), f"rows.txt: the pages lack {told}")
 
+    def test_a_row_that_is_damaged_may_be_good_elsewhere(self) -> None:
+        page = self.machine.pages[1].split("\n")
+        self.write("pages/0.txt", self.lines().replace(page[3], "babab babab badab"))
+        self.write("pages/typed.txt", f"once more:\n{page[3]}\n")
+        pages = str(self.folder / "pages")
+        self.assertEqual(self.read("--pages", pages), (0, b"", ""))
+        self.assertEqual(len(self.reports()["one.report"].splitlines()), 1000)
+
+    def test_all_registers(self) -> None:
+        booted = machine(b"int ax=300 bx=1\n")
+        image = self.write("call", booted.image)
+        path = self.write("rows.txt", "\n".join(booted.pages))
+        for words, told in (
+            ((), b"1 ax=0300 bx=0001 cx=1234 dx=1234\n"),
+            (("--all-registers",), b"1 ax=DEAD bx=1234 cx=1234 dx=1234\n"),
+            (("--part",), b"1 ax=0300 bx=0001 cx=1234 dx=1234\n"),
+        ):
+            self.assertEqual(run("read", image, "--pages", path, *words), (0, told, ""))
+
     def test_a_part(self) -> None:
         path = self.write("rows.txt", self.lines((1, 3)))
         self.assertEqual(self.read("--part", "--pages", path), (0, b"", ""))

@@ -18,7 +18,7 @@ from pathlib import Path
 from typing import Callable
 from unittest import mock
 
-from zaklimot.format import Script
+from zaklimot.format import Script, Step
 from zaklimot_tools.core.processes import started
 from zaklimot_tools.dev.emulators.words import main as emulators
 from zaklimot_tools.dev.emulators.table_page import FIRST_MARK, LAST_MARK
@@ -28,7 +28,7 @@ from zaklimot_tools.floppy import image as images, rows, running
 from zaklimot_tools.floppy.image import CODE, Run, image_for, read_image, read_record, report_lines
 from zaklimot_tools.floppy.asked import DOSBOX
 from zaklimot_tools.floppy.running import MACHINES
-from zaklimot_tools.floppy.table import Table, reset_steps, table_for
+from zaklimot_tools.floppy.table import Table, is_for_machine, reset_steps, table_for
 from zaklimot_tools.report.cases import read_cases
 from zaklimot_tools.report.places import SUITE
 from zaklimot_tools.explain.banks import Bank
@@ -356,6 +356,28 @@ class Images(Folder):
                 (2, b"", "vga-floppy: " + message),
             )
         self.assertEqual(list(self.folder.iterdir()), [])
+
+    def test_what_a_machine_has_room_for(self) -> None:
+        # Of a call's block each byte takes one of its room, of which all is taken, and one more.
+        def call_of(length: int) -> Step:
+            return Step("int", (0x1302, 0, 0, 0), bytes(length))
+
+        room = 422_896 - (len(table_for({"": Script((call_of(0),) * 7)})) - 16)
+        for more, told in ((0, ""), (1, "it: its steps take 422,897 bytes, and a machine has")):
+            lengths = [65_520] * 6 + [room - 6 * 65_520 + more]
+            script = Script(tuple(map(call_of, lengths)))
+            if told:
+                self.assertIn(told, refused(image_for, {"": script}, "it"))
+            else:
+                self.assertEqual(len(image_for({"": script}, "it")), images.IMAGE_SIZE)
+        answers = script_of(b"version 2\nrepeat 65535\nin 3CC\nend\n", "it")
+        self.assertEqual(len(image_for({"": answers}, "it")), images.IMAGE_SIZE)
+        self.assertEqual(len(Table(table_for({255 * "n": answers}), "it").scripts()), 1)
+        told = refused(table_for, {256 * "n": answers})
+        self.assertEqual(told, f"{256 * 'n'}: the name of a script has at most 255 bytes")
+        # A longer block is passed over.
+        for length, is_taken in ((0xFFF0, True), (0xFFF1, False)):
+            self.assertEqual(is_for_machine(call_of(length)), is_taken)
 
 
 class Left(Folder):

@@ -1,0 +1,156 @@
+"""The words of `vga-release`: which archives it packs, of what, and what it asks for before."""
+
+from __future__ import annotations
+
+import hashlib
+import io
+import tarfile
+from pathlib import Path
+from typing import Any, Optional
+from unittest import mock
+
+from zaklimot_tools.core.version import version
+from zaklimot_tools.dev.library.making import AARCH64, X86_64
+from zaklimot_tools.dev.release import command as release, stepping
+from zaklimot_tools.dev.release.command import Commit, Entry, File
+
+from .tools import Folder, call, hold_undone, main_of, patched, refused
+
+
+COMMIT = Commit("0123abcd", 1_700_000_000)
+FRONT = f"zaklimot-{version()}"
+
+
+class Archives(Folder):
+    def packed(self, *words: str, **made: Any) -> tuple[int, list[str], str]:
+        """How a release into a new folder ends, and the names of what it tells."""
+        asked: dict[str, Any] = {
+            "clean_commit": lambda: COMMIT,
+            "check_program": lambda _: None,
+            "portable_entries": lambda _: {"zaklimot.c": File(b"code")},
+            "release_entries": lambda *_: {"bin/vga": File(b"program", True)},
+            "steps_entries": lambda *_: {"README.md": File(b"page")},
+        }
+        with patched(release, {**asked, **made}):
+            status, output, said = call(main_of("vga-release"), self.folder / "new" / "r", *words)
+        return status, [Path(line).name for line in output.splitlines()], said
+
+    def test_single_step_tests_alone(self) -> None:
+        seen: list[tuple[object, ...]] = []
+
+        def entries(
+            commit: Commit, built: dict[str, Entry], _: object, count: int
+        ) -> dict[str, Entry]:
+            seen.append((commit, built, count))
+            return {"README.md": File(b"page")}
+
+        for words in (("--steps",), ("--steps", "--count", "5")):
+            made = {"steps_entries": entries, "release_entries": None, "portable_entries": None}
+            status, names, said = self.packed(*words, **made)
+            self.assertEqual((status, said), (0, ""))
+            self.assertEqual(names, [f"{FRONT}-steps.tar.gz", f"{FRONT}-steps.tar.gz.sha256"])
+        self.assertEqual(seen, [(COMMIT, {}, 10_000), (COMMIT, {}, 5)])
+        told = "^vga-release: --steps takes nothing that is built\n"
+        hold_undone(self, self.packed("--steps", "--archive", self.write("given", "")), told)
+        told = "^vga-release: --portable and --steps pack an archive each: give one of them\n"
+        hold_undone(self, self.packed("--portable", "--steps"), told)
+
+    def test_what_is_built(self) -> None:
+        ran: list[tuple[object, ...]] = []
+        seen: list[tuple[object, ...]] = []
+
+        def entries(_: Commit, program: Path, archives: dict[object, Path]) -> dict[str, Entry]:
+            seen.append((program, archives))
+            return {}
+
+        made = {
+            "run": lambda *words: ran.append(words[:2]),
+            "built_archive": lambda backend, target, _: f"{backend}-{target.name}.a",
+            "release_entries": entries,
+        }
+        self.assertEqual(self.packed(**made)[0], 0)
+        program, given = release.PROGRAM, self.write("given", "")
+        self.assertEqual(ran, [(["rt", "run", "--", "--help"], program)])
+        self.assertEqual(self.packed("--program", given, "--archive-aarch64", given, **made)[0], 0)
+        self.assertEqual(len(ran), 1)
+        own = Path("llvm-x86_64.a")
+        self.assertEqual(
+            seen,
+            [
+                (program / "out" / "vga", {X86_64: own, AARCH64: Path("llvm-aarch64.a")}),
+                (Path(given), {X86_64: own, AARCH64: Path(given)}),
+            ],
+        )
+
+    def test_programs_that_are_missing_are_told_before_any_work(self) -> None:
+        asked: list[str] = []
+        made = {"check_program": asked.append, "release_entries": lambda *_: {}, "_built": None}
+        built = {"_built": lambda *_: (Path(), {})}
+        self.assertEqual(self.packed(**{**made, **built})[0], 0)
+        self.assertLessEqual({"ld", "ar", "aarch64-linux-gnu-gcc"}, set(asked))
+        asked.clear()
+        self.assertEqual(self.packed("--portable", **made)[0], 0)
+        self.assertEqual(asked, [])
+
+
+class Commits(Folder):
+    def test_the_commit_and_its_time(self) -> None:
+        told = {"status": b"", "log": b"0123abcd 1700000000\n"}
+        with mock.patch.object(release, "_git", lambda command, *_: told[command]):
+            self.assertEqual(release.clean_commit(), COMMIT)
+
+    def test_programs_of_a_commit_stay_programs(self) -> None:
+        with io.BytesIO() as stream:
+            with tarfile.open(fileobj=stream, mode="w") as archive:
+                for name, mode in (("a/f", 0o644), ("a/p", 0o755)):
+                    member = tarfile.TarInfo(name)
+                    member.mode, member.size = mode, 3
+                    archive.addfile(member, io.BytesIO(name.encode()))
+            with mock.patch.object(release, "_git", lambda *_: stream.getvalue()):
+                found = release.files_of(COMMIT, ("a",))
+        self.assertEqual(found, {"a/f": File(b"a/f", False), "a/p": File(b"a/p", True)})
+
+    def test_what_it_is_made_of(self) -> None:
+        built: dict[str, Entry] = {"b": File(b"two"), "link": "b", "a/one": File(b"one")}
+        sums = [hashlib.sha256(data).hexdigest() for data in (b"one", b"two")]
+        told = f"commit 0123abcd\ntoolchain a kit\nsha256 {sums[0]} a/one\nsha256 {sums[1]} b\n"
+        self.assertEqual(release.made_of(COMMIT, "a kit", built), File(told.encode()))
+
+
+class Steps(Folder):
+    def make(
+        self, count: int, library: Optional[Path] = None
+    ) -> tuple[list[str], dict[str, bytes]]:
+        """The commands that make so many elements of each kind, and the files."""
+        ran: list[str] = []
+
+        def run(words: list[object], heard: object, environment: object = None) -> None:
+            ran.append(str(words[2]))
+            if words[2] == "make":
+                given = dict(zip(map(str, words[4::2]), map(str, words[5::2])))
+                self.assertEqual((given["--count"], given["--seed"]), (str(count), "18977485"))
+                folder = Path(str(words[3]))
+                folder.mkdir()
+                (folder / "out.json.gz").write_bytes(b"elements")
+
+        with mock.patch.object(stepping, "run", run):
+            return ran, stepping.make_steps("012192cdff", library, None, count)
+
+    def test_a_whole_release_shows_each_rule(self) -> None:
+        library = Path(self.write("library", "proved"))
+        for count, commands in ((9_999, ["make"]), (10_000, ["make", "coverage"])):
+            ran, files = self.make(count, library)
+            self.assertEqual(ran, commands)
+            told = (
+                f"commit 012192cdff\nseed 18977485\ncount {count}\n"
+                f"library sha256 {hashlib.sha256(b'proved').hexdigest()}\n"
+            )
+            self.assertEqual(files, {"steps/out.json.gz": b"elements", "MADE-OF": told.encode()})
+
+    def test_elements_that_are_too_large(self) -> None:
+        library = Path(self.write("library", "proved"))
+        with mock.patch.object(stepping, "MOST_BYTES", 8):
+            self.make(1, library)
+        with mock.patch.object(stepping, "MOST_BYTES", 7):
+            told = refused(self.make, 1, library)
+        self.assertEqual(told, "the elements have 8 bytes, and 7 are the most")
