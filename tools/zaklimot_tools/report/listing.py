@@ -367,12 +367,16 @@ def _told(row: Row) -> dict[str, Any]:
         "words": row.words,
         "answer": answer_of(step),
     }
-    told.update({"lines": list(step.lines)} if step.others else {})
+    if step.others:
+        told["lines"] = list(step.lines)
     if step.picture is not None:
         told["picture"] = {"size": step.picture.size, "md5": step.picture.sum}
-    told.update({"refused": step.answer, "why": row.why} if step.is_refused else {})
+    if step.is_refused:
+        told["refused"] = step.answer
+        told["why"] = row.why
     if row.expected is not None or row.is_wrong:
-        told.update({"expected": row.expected, "met": not row.is_wrong})
+        told["expected"] = row.expected
+        told["met"] = not row.is_wrong
     return told
 
 
