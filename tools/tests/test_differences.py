@@ -174,20 +174,6 @@ class Differing(unittest.TestCase):
                 ("row 03: 4107 2007", "row 03: 4107 2107", ["row 03 column 1: 2007, not 2107"]),
                 ("entry 01: 00 2A 3F", "entry 01: 00 2A 00", ["entry 01 blue: 3F, not 00"]),
                 ("plane 2 0820: 00 18", "plane 2 0820: 00 19", ["plane 2 0821: 18, not 19"]),
-                ("row 03: 4107", "row 04: 4107", ["row index: 03, not 04"]),
-                (
-                    "entry 01: 00 2A 3F",
-                    "entry 01: 01 2B 3F",
-                    ["entry 01 red: 00, not 01", "entry 01 green: 2A, not 2B"],
-                ),
-                ("attr 20 i: 00 01", "attr 20 d: 00 01", ["attr state: i, not d"]),
-                (
-                    "attr 20 i: 00 01",
-                    "attr 11 i: 00 02",
-                    ["attr index: 20, not 11", "attr 01 palette 1: 01, not 02"],
-                ),
-                ("bda mode 03 rows 19", "bda mode 03 rows 18", ["bda rows: 19, not 18"]),
-                ("seq 00: 00", "seq 00: 00 00", ["'seq 00: 00', not 'seq 00: 00 00'"]),
                 ("latches 00 55 00 00", "latches 00 55 00 01", ["latch of plane 3: 00, not 01"]),
                 ("beam frame 0 line 111", "beam frame 0 line 112", ["beam line: 111, not 112"]),
                 ("misc 67", "misc 63", ["misc: 67, not 63"]),
@@ -203,6 +189,28 @@ class Differing(unittest.TestCase):
                         "and 32 more",
                     ],
                 ),
+            ),
+        )
+
+    def test_what_stands_before_the_numbers_of_a_line(self) -> None:
+        hold(
+            self,
+            lambda answer, wanted: differing([answer], [wanted]),
+            (
+                ("row 03: 4107", "row 04: 4107", ["row index: 03, not 04"]),
+                (
+                    "entry 01: 00 2A 3F",
+                    "entry 01: 01 2B 3F",
+                    ["entry 01 red: 00, not 01", "entry 01 green: 2A, not 2B"],
+                ),
+                ("attr 20 i: 00 01", "attr 20 d: 00 01", ["attr state: i, not d"]),
+                (
+                    "attr 20 i: 00 01",
+                    "attr 11 i: 00 02",
+                    ["attr index: 20, not 11", "attr 01 palette 1: 01, not 02"],
+                ),
+                ("bda mode 03 rows 19", "bda mode 03 rows 18", ["bda rows: 19, not 18"]),
+                ("seq 00: 00", "seq 00: 00 00", ["'seq 00: 00', not 'seq 00: 00 00'"]),
             ),
         )
 
