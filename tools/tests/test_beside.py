@@ -63,6 +63,24 @@ bits = [[font[16 * ord(one) + y] for one in line] for line in lines for y in ran
 dots = numpy.unpackbits(numpy.array(bits, numpy.uint8), axis=1) * 255
 Image.fromarray(dots.repeat(2, axis=0).repeat(2, axis=1)).save(sys.argv[2])
 """
+# Saves an image as a camera does that was held otherwise: turned, with the number that tells how.
+TURNING = """
+import sys
+from PIL import Image
+exif = Image.Exif()
+exif[0x0112] = int(sys.argv[2])
+turned = Image.open(sys.argv[1]).rotate(int(sys.argv[3]), expand=True)
+turned.save(sys.argv[4], lossless=True, exif=exif)
+"""
+# Saves an image of which a colour of the palette is clear, the last.
+CLEARING = """
+import sys
+from PIL import Image
+image = Image.new("P", (320, 200))
+image.putpalette([252, 0, 0, 0, 0, 252])
+image.paste(1, (160, 0, 320, 200))
+image.save(sys.argv[1], transparency=1)
+"""
 TOOL = TOOLS / "vga-picture"
 
 
@@ -154,6 +172,29 @@ class Beside(Folder):
             self.assertEqual((done[0], done[2]), (0, ""))
             drawn.append((self.folder / "o.vga").read_bytes())
         self.assertEqual(drawn[0], drawn[1])
+
+    def test_a_photo_stands_upright(self) -> None:
+        dots = photo(320, 200, 4)
+        upright = self.write("one.png", png_of(dots))
+        whole = self.drawn(upright, "--mode", "13")
+        for number, degrees in (("6", "90"), ("8", "270"), ("3", "180"), ("1", "0")):
+            path = self.folder / "photo.webp"
+            words = (str(BOTH), "-c", TURNING, upright, number, degrees, path)
+            self.assertEqual(ended(*words), (0, "", ""))
+            done = ended(str(BOTH), TOOL, "script", path, self.folder / "o.vga", "--mode", "13")
+            self.assertEqual((done[0], done[2]), (0, ""), number)
+            self.assertEqual((self.folder / "o.vga").read_bytes(), whole, number)
+
+    def test_a_colour_of_a_palette_that_is_clear(self) -> None:
+        path = self.folder / "clear.gif"
+        self.assertEqual(ended(str(BOTH), "-c", CLEARING, path), (0, "", ""))
+        for ground, words in (((0, 0, 0), ()), ((100, 200, 0), ("--ground", "64C800"))):
+            dots = [[(252, 0, 0)] * 160 + [ground] * 160] * 200
+            whole = self.drawn(self.write("one.png", png_of(dots)), "--mode", "13")
+            script = self.folder / "o.vga"
+            done = ended(str(BOTH), TOOL, "script", path, script, "--mode", "13", *words)
+            self.assertEqual((done[0], done[2]), (0, ""))
+            self.assertEqual((self.folder / "o.vga").read_bytes(), whole)
 
     def test_a_picture_against_another_format(self) -> None:
         dots = photo(9, 5, 4)

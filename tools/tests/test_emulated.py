@@ -18,8 +18,8 @@ from .tools import Folder, hold, png_rows, refused, run_tool
 SEA = "/usr/share/seabios/vgabios-stdvga.bin"
 ISA = "/usr/share/seabios/vgabios-isavga.bin"
 LGPL = "/usr/share/vgabios/vgabios.bin"
-# What `xwininfo` tells of a display on which the second window is the largest: ten by six dots, from
-# dot 3 of row 2 on.
+# What `xwininfo` tells of a display on which the second window is the largest: ten by six dots,
+# from dot 3 of row 2 on.
 WINDOWS = r"""
   Root window id: 0x50 (the root window) (has no name)
      2 children:

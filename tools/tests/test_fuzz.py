@@ -299,7 +299,7 @@ class Fuzzing(Folder):
         # The clock is looked at before each input: at its begin, and then each half a second.
         moments = iter(at / 2 for at in range(100))
         with mock.patch.object(Program, "feed", return_value="done"):
-            with mock.patch.object(command.time, "monotonic", lambda: next(moments)):
+            with mock.patch(f"{command.__name__}.time.monotonic", lambda: next(moments)):
                 status, output, said = call(
                     main_of("vga-fuzz"), self.program_that(), "--seconds", "2"
                 )

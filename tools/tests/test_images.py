@@ -245,7 +245,7 @@ class Animations(Folder):
         self.assertEqual(
             list(map(zlib.decompress, rows)), [b"\0\xff\0\0", bytes(4), b"\0\xff\xff\xff"]
         )
-        # From a second on hundredths are counted: 141 frames of 404,100 dots pass before the second.
+        # From a second on hundredths are counted: 141 frames of 404,100 dots pass before the next.
         times = [struct.unpack(">HH", body[20:24]) for kind, body in chunks if kind == b"fcTL"]
         self.assertEqual(times, [(201, 100), (713, 50000), (713, 50000)])
 

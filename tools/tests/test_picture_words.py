@@ -1,5 +1,5 @@
-"""The words of `vga-picture`: standard input, a mode's letters, a font file, dithers of few colours,
-and outputs that can't both be written."""
+"""The words of `vga-picture`: standard input, a mode's letters, a font file, dithers of few
+colours, and outputs that can't both be written."""
 
 import re
 import tempfile

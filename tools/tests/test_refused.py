@@ -276,7 +276,11 @@ BAD_IMAGES: tuple[tuple[Any, ...], ...] = (
     ("the PNG is damaged", GOOD.replace(b"IDAT", b"IDAX"), GOOD.replace(b"IDAT", b"iDAT")),
     ("the header of the PPM is damaged", b"P6\n320 200\n", b"P6 1"),
     ("the PPM of 320x200 dots is damaged", ppm(320, 200, bytes(100))),
-    ("the PPM of 1x1 dots is damaged", b"P6\n1 1\n255\n\0"),
+    ("the PPM of 1x1 dots is damaged", b"P6\n1 1\n255\n\0", b"P6\n1 1\n63\n\x3f\x3f\x40"),
+    ("the PPM of 0x1 dots is damaged", b"P6\n0 1\n255\n123"),
+    ("the PPM of 1x0 dots is damaged", b"P6\n1 0\n255\n123"),
+    ("a PNG of this form can't be read: 0x1, depth 8, colour type 2", png(0, 1, b"\0")),
+    ("a PNG of this form can't be read: 1x1, depth 3, colour type 2", png(1, 1, bytes(4), depth=3)),
     ("the components go to 1000; 63 and 255 can be read", b"P6\n1 1\n1000\n123456"),
     ("the components go to 65535; 63 and 255 can be read", b"P6\n1 1\n65535\n123456"),
     (

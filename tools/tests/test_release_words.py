@@ -84,9 +84,12 @@ class Archives(Folder):
 
     def test_programs_that_are_missing_are_told_before_any_work(self) -> None:
         asked: list[str] = []
-        made = {"check_program": asked.append, "release_entries": lambda *_: {}, "_built": None}
-        built = {"_built": lambda *_: (Path(), {})}
-        self.assertEqual(self.packed(**{**made, **built})[0], 0)
+        made: dict[str, Any] = {
+            "check_program": asked.append,
+            "release_entries": lambda *_: {},
+            "_built": None,
+        }
+        self.assertEqual(self.packed(**{**made, "_built": lambda *_: (Path(), {})})[0], 0)
         self.assertLessEqual({"ld", "ar", "aarch64-linux-gnu-gcc"}, set(asked))
         asked.clear()
         self.assertEqual(self.packed("--portable", **made)[0], 0)
