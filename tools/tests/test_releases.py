@@ -8,6 +8,7 @@ import io
 import os
 import re
 import shutil
+import struct
 import sys
 import tarfile
 import tempfile
@@ -202,6 +203,9 @@ class Parts(Folder):
             told, f"{hashlib.sha256(archive.read_bytes()).hexdigest()}  {front}.tar.gz\n"
         )
         self.assertEqual(self.packed(dict(reversed(ENTRIES.items()))), (archive, told))
+        # The bytes of gzip have a time of their own.
+        (time,) = struct.unpack_from("<I", archive.read_bytes(), 4)
+        self.assertEqual(time, COMMIT.time)
         with tarfile.open(archive) as opened:
             members = opened.getmembers()
             content = opened.extractfile(f"{front}/z/bin/vga")
@@ -514,16 +518,13 @@ class OtherProcessors(Folder):
         """That what was made is installed without it, but not where the memory's functions are
         others."""
         self.notes.unlink()
-        words = [
-            "install",
-            "--prefix",
-            "/usr",
-            "--destdir",
-            str(self.folder / "stage"),
-            "--target",
-            "aarch64",
-        ]
-        self.assertEqual(call(main_of("vga-library"), *words)[0], 0)
+        prefix = self.folder / "usr"
+        stage = self.folder / "stage"
+        words = ["--prefix", str(prefix), "--destdir", str(stage), "--target", "aarch64"]
+        self.assertEqual(call(main_of("vga-library"), "install", *words)[0], 0)
+        # A stage stands before the prefix.
+        self.assertTrue((stage / str(prefix)[1:] / "include/zaklimot.h").is_file())
+        self.assertFalse(prefix.exists())
         self.assertEqual({words[0] for words in self.noted()}, set(AARCH64.programs()))
         self.assertIsNotNone(making.kept("llvm", AARCH64))
         with mock.patch.object(making, "HEAP", Path(__file__)):
