@@ -333,6 +333,54 @@ STRETCHED = (
         for pair in ((DRAWN_WIDE, Shape(), DRAWN_HIGH), (DRAWN_HIGH, Shape(), DRAWN_WIDE))
     ),
 )
+# Images in other forms, and their rows.
+FORMS_OF_PNG = (
+    (png(2, 1, b"\0" + DRAWN_RED + DRAWN_FULL), [DRAWN_RED + DRAWN_FULL]),
+    (
+        png(2, 1, b"\0" + DRAWN_RED + b"\x01" + DRAWN_FULL + b"\x80", colour=6),
+        [DRAWN_RED + DRAWN_FULL],
+    ),
+    (
+        png(2, 1, b"\0\xff\0\xff\0\0\0" + b"\xff\0" * 3, depth=16),
+        [b"\xff\xff\0" + DRAWN_FULL],
+    ),
+    (png(2, 1, b"\0\x80\xff", colour=0), [b"\x80" * 3 + DRAWN_FULL]),
+    (png(2, 1, b"\0\x80\0\xff\0", colour=4), [b"\x80" * 3 + DRAWN_FULL]),
+    (png(3, 1, b"\0\xa0", depth=1, colour=0), [DRAWN_FULL + b"\0\0\0" + DRAWN_FULL]),
+    (
+        png(3, 1, b"\0\x10\x10", depth=4, colour=3, palette=DRAWN_RED + DRAWN_FULL),
+        [DRAWN_FULL + DRAWN_RED + DRAWN_FULL],
+    ),
+    (
+        png(2, 2, b"\x01" + DRAWN_RED + b"\0\xff\xff" + b"\x02" + b"\0" * 6),
+        [DRAWN_RED + DRAWN_FULL] * 2,
+    ),
+    (
+        png(2, 2, b"\0" + DRAWN_RED + DRAWN_FULL + b"\x03" + b"\x80\x00\x00\x00\x80\x80"),
+        [DRAWN_RED + DRAWN_FULL] * 2,
+    ),
+    (
+        png(2, 2, b"\0" + DRAWN_RED + DRAWN_FULL + b"\x04" + b"\0" * 3 + b"\0" * 3),
+        [DRAWN_RED + DRAWN_FULL] * 2,
+    ),
+    # Two bits, and sixteen of a colour with its alpha.
+    (
+        png(4, 1, b"\0\x1b", depth=2, colour=0),
+        [b"\0\0\0\x55\x55\x55\xaa\xaa\xaa" + DRAWN_FULL],
+    ),
+    (png(1, 1, b"\0\1\xff\2\xff\3\xff\4\xff", depth=16, colour=6), [b"\1\2\3"]),
+    # A filter looks back by a dot, or a byte where a dot is less.
+    (
+        png(2, 1, b"\1\1\0\2\0\3\0" + b"\1\0" * 3, depth=16),
+        [b"\1\2\3\2\3\4"],
+    ),
+    (
+        png(4, 1, b"\1\x01\x0f", depth=4, colour=3, palette=DRAWN_RED + DRAWN_FULL),
+        [DRAWN_RED + DRAWN_FULL + DRAWN_FULL + DRAWN_RED],
+    ),
+    (b"P6 # a\n1\t1\n255\n\x01\x02\x03", [b"\x01\x02\x03"]),
+    (b"P6\n1 1\n63\n\x3f\x02\x03and more", [b"\x3f\x02\x03"]),
+)
 
 
 class Images(unittest.TestCase):
@@ -405,52 +453,7 @@ class Images(unittest.TestCase):
             self.assertEqual(told, "i: the PNG is damaged")
 
     def test_forms_of_png(self) -> None:
-        red, white = b"\xff\x00\x00", b"\xff\xff\xff"
-        hold(
-            self,
-            lambda data: list(image_of(data, "i").rows),
-            [
-                (png(2, 1, b"\0" + red + white), [red + white]),
-                (png(2, 1, b"\0" + red + b"\x01" + white + b"\x80", colour=6), [red + white]),
-                (
-                    png(2, 1, b"\0\xff\0\xff\0\0\0" + b"\xff\0" * 3, depth=16),
-                    [b"\xff\xff\0" + white],
-                ),
-                (png(2, 1, b"\0\x80\xff", colour=0), [b"\x80" * 3 + white]),
-                (png(2, 1, b"\0\x80\0\xff\0", colour=4), [b"\x80" * 3 + white]),
-                (png(3, 1, b"\0\xa0", depth=1, colour=0), [white + b"\0\0\0" + white]),
-                (
-                    png(3, 1, b"\0\x10\x10", depth=4, colour=3, palette=red + white),
-                    [white + red + white],
-                ),
-                (png(2, 2, b"\x01" + red + b"\0\xff\xff" + b"\x02" + b"\0" * 6), [red + white] * 2),
-                (
-                    png(2, 2, b"\0" + red + white + b"\x03" + b"\x80\x00\x00\x00\x80\x80"),
-                    [red + white] * 2,
-                ),
-                (
-                    png(2, 2, b"\0" + red + white + b"\x04" + b"\0" * 3 + b"\0" * 3),
-                    [red + white] * 2,
-                ),
-                # Two bits, and sixteen of a colour with its alpha.
-                (
-                    png(4, 1, b"\0\x1b", depth=2, colour=0),
-                    [b"\0\0\0\x55\x55\x55\xaa\xaa\xaa" + white],
-                ),
-                (png(1, 1, b"\0\1\xff\2\xff\3\xff\4\xff", depth=16, colour=6), [b"\1\2\3"]),
-                # A filter looks back by a dot, or a byte where a dot is less.
-                (
-                    png(2, 1, b"\1\1\0\2\0\3\0" + b"\1\0" * 3, depth=16),
-                    [b"\1\2\3\2\3\4"],
-                ),
-                (
-                    png(4, 1, b"\1\x01\x0f", depth=4, colour=3, palette=red + white),
-                    [red + white + white + red],
-                ),
-                (b"P6 # a\n1\t1\n255\n\x01\x02\x03", [b"\x01\x02\x03"]),
-                (b"P6\n1 1\n63\n\x3f\x02\x03and more", [b"\x3f\x02\x03"]),
-            ],
-        )
+        hold(self, lambda data: list(image_of(data, "i").rows), FORMS_OF_PNG)
 
 
 @unittest.skipIf(os.name != "posix", "a script is a program on POSIX")
