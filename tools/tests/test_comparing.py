@@ -1,0 +1,147 @@
+"""How two traces differ first: the names of registers, the pictures that stand for a while, and the
+exit status. And what options make of the pictures and scripts of a trace."""
+
+from __future__ import annotations
+
+from unittest import mock
+
+from zaklimot_tools.trace import command
+
+from .test_seeing import Seen
+from .tools import Folder, hold, hold_undone, png_rows, ppm
+from .tracing import BEGIN, run
+
+
+MODE = "0 int 3 0 0 0\n"
+NO_MORE = ", and there are no more"
+ALIKE = f"register writes: the first is equal{NO_MORE}"
+SMALL, LARGE = ppm(2, 1, bytes(6)), ppm(4, 3, bytes(36))
+# A letter, and after half a second another one.
+STANDING = MODE + "1 w m B8000 41 1\n500001 w m B8000 42 1\n"
+# Something is written in one frame, five seconds later, and later once more.
+SILENT = BEGIN + b"20000 w m A0000 1 1\n5020000 w m A0000 2 1\n5040000 w m A0000 3 1\n"
+
+
+class Differences(Seen):
+    def compare(self, one: str, other: str, *words: str) -> tuple[int, list[str]]:
+        """The exit status, and the lines that compare two traces of these lines."""
+        paths = [self.write(name, text) for name, text in (("one", one), ("other", other))]
+        status, output, said = self.run_command("compare", *paths, *words)
+        self.assertEqual(said, "")
+        return status, output.replace(str(self.folder) + "/", "").splitlines()
+
+    def test_either_difference_is_one(self) -> None:
+        # A register that shows nowhere, and a picture by the same registers.
+        status, lines = self.compare(MODE + "9 w p 3CE 0008 2\n", MODE + "9 w p 3CE 0108 2\n")
+        told = [
+            "register writes: the first is equal; write 2 differs",
+            "  one: gfx 08 bit mask: 00, at 0.001",
+            "  other: gfx 08 bit mask: 01, at 0.001",
+            f"pictures: the first is equal{NO_MORE}",
+        ]
+        self.assertEqual((status, lines), (1, told))
+        status, lines = self.compare(MODE + "9 w m B8000 41 1\n", MODE + "9 w m B8000 42 1\n")
+        told = [ALIKE, "pictures: picture 1 differs", "  one: 720x400, at 0.001"]
+        self.assertEqual((status, lines[:3]), (1, told))
+
+    def test_names_of_ports_and_calls(self) -> None:
+        # The first difference ends it, so each name takes a comparison.
+        for words, told in (
+            ("w p 3C2 6{} 1", "misc: 6{}"),
+            ("w p 3C7 0{} 1", "DAC index for reading: 0{}"),
+            ("w p 3C8 0{} 1", "DAC index for writing: 0{}"),
+            ("w p 3C6 F{} 1", "DAC mask: F{}"),
+            ("w p 3C3 0{} 1", "port 3C3: 0{}"),
+            ("int 1301 7 1 {} 41", "interrupt 10: 1301 0007 0001 000{} 41"),
+        ):
+            one, other = (f"- {words.format(value)}\n" for value in (3, 7))
+            wanted = [
+                f"  one: {told.format(3)}, at cycle 1",
+                f"  other: {told.format(7)}, at cycle 1",
+            ]
+            lines = self.compare(one, other)[1]
+            self.assertEqual(lines[:3], ["register writes: write 1 differs", *wanted])
+
+    def test_pictures_that_stand_for_a_while(self) -> None:
+        shorter = STANDING.replace("500001", "500000")
+        status, lines = self.compare(STANDING, shorter)
+        self.assertEqual(status, 1)
+        first = ["  one: 720x400, at 0.001", "  other: 720x400, at 0.500"]
+        self.assertEqual(lines[:4], [ALIKE, "pictures: picture 1 differs", *first])
+        for still, told in (("0.6", "the first is equal"), ("0.4", "the first 2 are equal")):
+            done = self.compare(STANDING, shorter, "--still", still)
+            self.assertEqual(done, (0, [ALIKE, f"pictures: {told}{NO_MORE}"]))
+
+    def test_more_pictures_and_another_size(self) -> None:
+        out = self.folder / "differing.png"
+        words = ("--picture", str(out))
+        longer = STANDING + "2000000 w m B8000 43 1\n"
+        status, lines = self.compare(STANDING, longer, *words)
+        told = [
+            "pictures: the first 2 are equal; picture 3 differs",
+            "  one: no more",
+            "  other: 720x400, at 2.000",
+        ]
+        self.assertEqual((status, lines, out.exists()), (1, [ALIKE, *told], False))
+        status, lines = self.compare(MODE, "0 int 13 0 0 0\n", *words, "--scale", "2")
+        told = ["  one: 720x400, at 0.000", "  other: 640x400, at 0.000", "differing.png"]
+        self.assertEqual((status, lines[4:]), (1, told))
+        self.assertEqual(png_rows(out.read_bytes())[:2], (1440, 800))
+
+
+class Options(Folder):
+    def pictures(self, *words: str, given: bytes = SILENT) -> tuple[int, bytes, str]:
+        """What `pictures` does with a program of three pictures."""
+        program = self.answering("ok", SMALL, "ok", LARGE, "ok", SMALL, "ok", SMALL)
+        return run("pictures", self.write("trace", given), *words, "--vga", program)
+
+    def test_silences_last_as_long_as_is_asked(self) -> None:
+        for words, told in (
+            ((), "1 s, and 4.0 s left out so"),
+            (("--longest", "3"), "3 s, and 2.0 s left out so"),
+        ):
+            status, data, said = self.pictures("--apng", "-", *words)
+            name = self.folder / "trace"
+            self.assertEqual(status, 0)
+            lines = said.splitlines()
+            self.assertEqual(lines[0], f"vga-trace: warning: {name}: 1 silence cut to {told}")
+            self.assertRegex(lines[1], r"^standard output: 3 pictures, \d\.\d{3} seconds$")
+            self.assertEqual(png_rows(data)[:2], (4, 3))
+        said = run("convert", "-", "-", "--frames", "clock", "--longest", "2", given=SILENT)[2]
+        self.assertIn("1 silence cut to 2 s, and 3.0 s left out so\n", said)
+        self.assertEqual(self.pictures("--apng", "-", "--longest", "5.1")[2].count("\n"), 1)
+
+    def test_stills_have_the_shape_that_is_asked(self) -> None:
+        folder = self.folder / "pictures"
+        status, output, said = self.pictures(str(folder), "--scale", "2", "--longest", "9")
+        paths = [folder / line.rpartition("/")[2] for line in output.decode().splitlines()]
+        self.assertEqual((status, said), (0, ""))
+        sizes = [png_rows(path.read_bytes())[:2] for path in paths]
+        self.assertEqual(sizes, [(4, 2), (8, 6), (4, 2)])
+
+    def test_pictures_that_take_too_much(self) -> None:
+        with mock.patch.object(command, "MOST_PACKED", 20):
+            done = self.pictures("--apng", str(self.folder / "out.png"), "--longest", "9")
+        told = "the pictures take more than 20 bytes: --from and --to take a part of the trace"
+        hold_undone(self, done, told)
+        self.assertFalse((self.folder / "out.png").exists())
+
+    def test_what_becomes_of_the_words(self) -> None:
+        # Two polls, a write half a second later, and a flip.
+        given = BEGIN + b"1 r p 3DA 0 1\n2 r p 3DA 0 1\n500002 w m A0000 1 1\n"
+        given += b"500003 w p 3D4 010C 2\n"
+        polls, put, flip = ["in 3DA", "in 3DA"], "put A0000 01", "outw 3D4 010C"
+        begin = "out 3C2 67"
+        hold(
+            self,
+            lambda *words: run("convert", "-", "-", "--text", *words, given=given)[1]
+            .decode()
+            .splitlines(),
+            (
+                ([begin, *polls, put, flip, "frame"],),
+                ("--polls", "first", [begin, polls[0], put, flip, "frame"]),
+                ("--frames", "0.5", [begin, *polls, "frame", put, flip, "frame"]),
+                ("--frames", "flip", [begin, *polls, put, "frame", flip, "frame"]),
+                ("--to", "4", "--polls", "first", [begin, polls[0], put, "frame"]),
+            ),
+        )
