@@ -128,6 +128,29 @@ class Kept(Folder):
         self.assertEqual(status, 1)
         self.assertIn("the verdict is otherwise than it was kept: 1 cycle\n", output)
 
+    def test_dots_that_differ_are_kept(self) -> None:
+        # The machine has shown another first dot.
+        self.judge(self.recorded)
+        width, height, rows = png_rows((self.recorded / "picture-1.png").read_bytes())
+        dots = bytes(byte ^ 0xFF for byte in rows[0][:3]) + b"".join(rows)[3:]
+        self.write("recorded/screen-1.ppm", b"P6 %d %d 255\n%b" % (width, height, dots))
+        self.keep()
+        with zipfile.ZipFile(self.zip) as archive:
+            self.assertEqual(archive.namelist(), ["differing-1.png", *NAMES])
+        status, output, _ = self.judge(self.zip)
+        self.assertEqual(status, 1)
+        told = output.splitlines()
+        differing = "1 of 288,000 dots differ, in columns 0 to 0 and rows 0 to 0"
+        self.assertTrue([line for line in told if line.endswith(differing)], output)
+        self.assertEqual(told[-1], "all is as it was kept: the verdict and 1 picture")
+
+    def test_a_verdict_of_fewer_lines(self) -> None:
+        self.keep()
+        lines = (self.recorded / "verdict.txt").read_bytes().splitlines(keepends=True)
+        output = self.judge(self.rewritten(verdict_txt=b"".join(lines[:-1])))[1]
+        told = "the verdict is otherwise than it was kept: another order, or fewer lines\n"
+        self.assertTrue(output.endswith(told), output)
+
     def test_what_is_no_recording(self) -> None:
         self.keep()
         whole = self.zip.read_bytes()

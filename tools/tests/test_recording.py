@@ -9,6 +9,7 @@ import sys
 import tempfile
 import unittest
 from collections import Counter
+from hashlib import sha256
 from pathlib import Path
 from types import SimpleNamespace as Namespace
 from typing import Any
@@ -432,6 +433,17 @@ class Recorded(Folder):
         status, output, _ = run("record", self.into, "--again", *program)
         self.assertEqual((status, output.decode().count("dots differ")), (1, 1))
         hold_undone(self, run("record", self.into, *program, "--", "-x"), "or --again to judge it")
+
+    def test_another_card_and_the_digests_of_what_runs(self) -> None:
+        disc = self.write("disc.img", b"disc")
+        card = f"VGA,romfile={self.write('rom', b'rom')}"
+        words = ("-drive", f"file={disc},format=raw")
+        self.assertEqual(self.record("--card", card, words=words)[0], 0)
+        note = self.note()
+        self.assertEqual(note["words"], ["-device", card, *words])
+        files = {name: (self.folder / name).read_bytes() for name in ("disc.img", "rom")}
+        sums = {f"{self.folder}/{name}": sha256(data).hexdigest() for name, data in files.items()}
+        self.assertEqual((note["software"], note["has_beam"]), (sums, False))
 
     def test_what_can_not_be_judged_again(self) -> None:
         program = ("--vga", self.answering("ok"))
