@@ -1,0 +1,164 @@
+"""Scripts of elements for machines, which read the state by cycles: which elements have one, their
+names, and the answers that they expect. And what is told where two elements differ."""
+
+from __future__ import annotations
+
+import json
+from typing import Any
+
+from zaklimot_tools.steps.comparing import differences
+from zaklimot_tools.steps.kinds import KINDS
+from zaklimot_tools.steps.parts import BEAM, FINAL, INITIAL, Element
+from zaklimot_tools.steps.readback import readback_lines
+
+from .stepping import GOOD, steps
+from .tools import Folder, hold
+
+
+# A state of one colour whose values are 0 and others, and the cycles that read it up to its memory.
+STATE: Element = {
+    "misc": 0x66,
+    "seq_index": 0,
+    "seq": [3, 0],
+    "crtc": [0],
+    "attr_index": 0,
+    "attr": [9],
+    "dac_mask": 0,
+    "dac_index": 5,
+    "latches": [0, 1, 0, 2],
+    "planes": [[5, 0, 0, 7, 0]],
+    "colours": [[0, 0, 63, 0]],
+}
+CYCLES = """in 3C6 ; = 00
+in 3C8 ; = 05
+in 3C0 ; = 00
+in 3C4 ; = 00
+out 3C4 00
+in 3C5 ; = 03
+out 3C4 01
+in 3C5 ; = 00
+out 3B4 00
+in 3B5 ; = 00
+in 3BA
+out 3C0 00
+in 3C1 ; = 09
+in 3CC ; = 66""".splitlines()
+# What it expects of the latches and of a place, plane by plane, and of an entry.
+READ = ["00", "00", "01", "00", "00", "07", "02", "00"]
+ENTRY = ["out 3C7 00", "in 3C9 ; = 00", "in 3C9 ; = 3F", "in 3C9 ; = 00"]
+REFUSED: Element = {**GOOD, "refused": "NotDecoded"}
+CALLED: Element = {**GOOD, "answer": {"ax": 3, "block": [1, 2, 3]}}
+
+
+def element(name: str, **more: Any) -> Element:
+    """The good element by another name, and with other members."""
+    return {**GOOD, "name": name, **more}
+
+
+class Machines(Folder):
+    def elements(self, *given: Element) -> str:
+        """A file of elements."""
+        lines = ",\n".join(json.dumps(one, separators=(",", ":")) for one in given)
+        return self.write("some.json", f"[\n{lines}\n]\n")
+
+    def test_what_is_0_is_expected_too(self) -> None:
+        lines = list(readback_lines({**GOOD, FINAL: STATE}))
+        self.assertEqual(lines[: len(CYCLES)], CYCLES)
+        self.assertEqual(lines[-4:], ENTRY)
+        memory = [line.split(" ; = ")[1] for line in lines if line.startswith("get ")]
+        self.assertEqual(memory, READ)
+
+    def test_names_have_the_numbers_of_elements(self) -> None:
+        beam = {FINAL: {**GOOD[FINAL], "beam": dict.fromkeys(BEAM, 0)}}
+        beam[INITIAL] = beam[FINAL]
+        kinds = (
+            element("first"),
+            {**REFUSED, FINAL: GOOD[INITIAL], "name": "no"},
+            element("beam", **beam),
+            element("fourth"),
+            element("last"),
+        )
+        path = self.elements(*kinds)
+        for number, (words, names) in enumerate(
+            (
+                ((), ["000000", "000003", "000004"]),
+                (("--first", 4), ["000000", "000003"]),
+                (("--first", 3), ["000000"]),
+            )
+        ):
+            folder = self.folder / f"asked{number}"
+            count = len(names)
+            told = f"{count} script{'s' * (count > 1)}\n"
+            self.assertEqual(steps("scripts", folder, path, *words), (0, told, ""))
+            listed = (folder / "list.txt").read_text()
+            self.assertEqual(listed, "".join(f"some/{name}.vga -\n" for name in names))
+            found = sorted(path.stem for path in (folder / "some").iterdir())
+            self.assertEqual(found, names)
+        lines = (self.folder / "asked0" / "some" / "000003.vga").read_text().splitlines()
+        self.assertEqual(lines[0], "; fourth")
+        self.assertIn("put A0005 07", lines)
+        answers = [line for line in lines if line.startswith("get A0005 ; = ")]
+        self.assertEqual(answers, 4 * ["get A0005 ; = 07"])
+
+    def test_reports_of_no_element_agree_with_nothing(self) -> None:
+        path = self.elements({**REFUSED, FINAL: GOOD[INITIAL]})
+        told = f"{path}: no element\nof all files\n0 elements: 0 agree, 0 differ\n"
+        self.assertEqual(steps("reports", self.folder, path), (1, told, ""))
+
+    def test_kinds_are_told_without_their_parts(self) -> None:
+        status, output, said = steps("kinds")
+        width = max(map(len, KINDS))
+        wanted = [f"{name:{width}}  {kind.told}" for name, kind in KINDS.items()]
+        self.assertEqual((status, output.splitlines(), said), (0, wanted, ""))
+
+
+class Differences(Folder):
+    def test_answers_and_refusals(self) -> None:
+        number: Element = {**GOOD, "answer": 0}
+        hold(
+            self,
+            lambda *both: list(differences(*both)),
+            (
+                (REFUSED, {}, ["refused: it is done, not NotDecoded"]),
+                (GOOD, {"refused": "NotDecoded"}, ["refused: NotDecoded, not done"]),
+                (
+                    REFUSED,
+                    {"refused": "NotInProfile", "answer": 5},
+                    ["refused: NotInProfile, not NotDecoded"],
+                ),
+                (number, {"answer": 0}, []),
+                (number, {}, ["answer: none, not 0"]),
+                (CALLED, {"answer": {"ax": 3, "block": [1, 2, 3]}}, []),
+                (
+                    CALLED,
+                    {"answer": {"ax": 4, "bx": 0, "block": [1, 9, 3]}},
+                    [
+                        "answer ax: 4, not 3",
+                        "answer block 1: 9, not 2",
+                        "answer bx: 0, not none",
+                    ],
+                ),
+                (CALLED, {"answer": 3}, ["answer: 3, not {'ax': 3, 'block': [1, 2, 3]}"]),
+                # So much of a value is told.
+                (number, {"answer": "x" * 60}, [f"answer: {'x' * 60}, not 0"]),
+                (number, {"answer": "x" * 61}, [f"answer: {'x' * 60}.., not 0"]),
+            ),
+        )
+
+    def test_parts_of_a_state(self) -> None:
+        beam = dict.fromkeys(BEAM, 4)
+        final: Element = {"misc": 3, "beam": beam, "seq": [1, 2, 3], "colours": [[7, 1, 2, 3]]}
+        hold(
+            self,
+            lambda given: list(differences({**GOOD, FINAL: final}, {FINAL: given})),
+            (
+                # Parts that an adapter leaves out make no difference.
+                ({"seq": [1, 2, 3]}, []),
+                ({"beam": {**beam, "line": 9}, "misc": 3}, ["beam line: 9, not 4"]),
+                ({"seq": [1, 9, 9]}, ["seq 1: 9, not 2, and 1 more"]),
+                ({"seq": [1, 2]}, ["seq: 2 of them, not 3"]),
+                ({"misc": 0}, ["misc: 0, not 3"]),
+                ({"colours": [[7, 1, 2, 0]]}, ["colours 7: [1, 2, 0], not [1, 2, 3]"]),
+                ({"colours": []}, ["colours 7: none, not [1, 2, 3]"]),
+            ),
+        )
