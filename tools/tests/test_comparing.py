@@ -8,7 +8,7 @@ from unittest import mock
 from zaklimot_tools.trace import command
 
 from .test_seeing import Seen
-from .tools import Folder, hold, hold_undone, png_rows, ppm
+from .tools import Folder, hold, hold_undone, png_rows, ppm, report
 from .tracing import BEGIN, run
 
 
@@ -145,3 +145,14 @@ class Options(Folder):
                 ("--to", "4", "--polls", "first", [begin, polls[0], put, "frame"]),
             ),
         )
+
+    def test_calls_are_told_by_their_functions(self) -> None:
+        given = b"0 int E41 7 0 0\n1 int 1301 7 1 0 41\n2 int E42 7 0 0\n"
+        answers = report("E3 NoMode", "E3 NoMode", "E3 NoMode", SMALL)
+        done = run("check", self.write("trace", given), "-", given=answers)
+        lines = [
+            "4 steps, 3 refused, 0 reads answered, 0 differ",
+            "  refused         2 E3 NoMode: int AH 0E (first at step 1)",
+            "  refused         1 E3 NoMode: int AH 13 (first at step 2)",
+        ]
+        self.assertEqual((done[0], done[1].decode().splitlines()), (1, lines))

@@ -3,9 +3,13 @@ moment an option names."""
 
 from __future__ import annotations
 
+import unittest
 from pathlib import Path
 
 from zaklimot_tools.script.words import FONTS
+from zaklimot_tools.trace.cells import code_page, text_of
+from zaklimot_tools.trace.finding import found_in
+from zaklimot_tools.trace.state import State
 
 from .test_seeing import Seen
 from .tools import PROGRAM, hold, hold_undone, png_rows, run_tool
@@ -170,6 +174,81 @@ class Moments(Seen):
         told = "`record` took 2 of its screens, and no screen 3"
         hold_undone(self, self.run_command("text", trace, "--screen", "3"), told)
         self.assertEqual(self.done("text", trace).strip(), "C")
+
+
+class Rows(unittest.TestCase):
+    """Rows of text whose cells have the last digit of their row in memory."""
+
+    # Text of 80 columns and 25 rows of 16 lines, in a frame of 449 lines.
+    SHAPE = {0: 0x5F, 1: 0x4F, 6: 0xBF, 7: 0x1F, 9: 0x4F, 0x12: 0x8F, 0x13: 0x28, 0x14: 0x1F}
+    ADDRESSED = {0x17: 0xA3, 0x18: 0xFF}
+
+    def shown(self, **changed: int) -> list[str]:
+        """The rows that are shown with other CRT controller's registers: `r09` is register 09."""
+        state = State()
+        numbers = {int(name[1:], 16): value for name, value in changed.items()}
+        for index, value in {**self.SHAPE, **self.ADDRESSED, **numbers}.items():
+            state.crtc.registers[index] = value
+        state.seq.registers[1] = 1
+        for cell in range(80 * 50):
+            state.memory.words[2 * cell] = 0x0730 + cell // 80 % 10
+        return list(text_of(state, code_page("cp437"), "trace"))
+
+    def test_which_rows_of_memory_are_shown(self) -> None:
+        tens = "0123456789"
+        hold(
+            self,
+            lambda changed: "".join(row[0] for row in self.shown(**changed)),
+            (
+                ({}, tens + tens + "01234"),
+                # Each line twice: twelve rows and a half.
+                ({"r09": 0xCF}, tens + "012"),
+                # The first row begins with its line 5, so that another one comes up.
+                ({"r08": 5}, tens + tens + "012345"),
+                ({"r0D": 80}, "123456789" + tens + "012345"),
+                ({"r0C": 1}, "3456789" + tens + "01234567"),
+                # Below line 26 memory begins anew, with a whole row.
+                ({"r08": 5, "r07": 0x0F, "r09": 0x0F, "r18": 26}, "01" + tens + tens + "0123"),
+                # No more lines than a frame has.
+                ({"r07": 0x5F}, tens + tens + "012345678"),
+            ),
+        )
+
+    def test_how_long_rows_are(self) -> None:
+        self.assertEqual({len(row) for row in self.shown()}, {80})
+        # Rows lie 80 cells apart all the same, or 40.
+        rows = self.shown(r01=39)
+        self.assertEqual((rows[:2], len(rows)), ([40 * "0", 40 * "1"], 25))
+        rows = self.shown(r01=39, r13=20)
+        self.assertEqual(rows[:3], [40 * "0", 40 * "0", 40 * "1"])
+
+
+class Finding(Seen):
+    def test_where_a_text_stands(self) -> None:
+        hold(
+            self,
+            lambda rows, wanted, folds: list(found_in(rows, wanted, folds)),
+            (
+                # One may begin within another.
+                (["aaa", "", "xaa"], "aa", False, [(0, 0), (0, 1), (2, 1)]),
+                (["Aa", "aA"], "aa", False, []),
+                (["Aa", "aA"], "AA", True, [(0, 0), (1, 0)]),
+                # Some letters have two small ones.
+                (["\u0130x", "\u00e9"], "X", True, [(0, 1)]),
+                (["\u0130x", "\u00e9"], "\u00c9", True, [(1, 0)]),
+                (["ab"], "abc", False, []),
+            ),
+        )
+
+    def test_as_many_places_as_are_asked_for(self) -> None:
+        text = b"0 int 3 0 0 0\n1 int 0100 0 2000 0\n"
+        text += b"20000 w m B8000 0780 2\n40000 w m B8004 0780 2\n"
+        trace = self.write("two", text)
+        head, one = " seconds  row  column  text", "   0.020    0       0  \u0410"
+        two = "   0.040    0       2  \u0410 \u0410"
+        for most, wanted in ((1, [head, one, "1 more"]), (2, [head, one, two])):
+            words = ("--most", str(most), "--code-page", "cp866")
+            self.assertEqual(self.done("find", trace, "\u0410", *words).splitlines(), wanted)
 
 
 class Files(Seen):
