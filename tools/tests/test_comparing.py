@@ -3,6 +3,8 @@ exit status. And what options make of the pictures and scripts of a trace."""
 
 from __future__ import annotations
 
+import os
+from pathlib import Path
 from unittest import mock
 
 from zaklimot_tools.trace import command
@@ -125,6 +127,29 @@ class Options(Folder):
         told = "the pictures take more than 20 bytes: --from and --to take a part of the trace"
         hold_undone(self, done, told)
         self.assertFalse((self.folder / "out.png").exists())
+
+    def test_a_trace_without_a_picture(self) -> None:
+        program = self.answering("ok", "ragged")
+        words = ("pictures", self.write("trace", BEGIN), self.folder / "all", "--vga", program)
+        hold_undone(self, run(*words), "no frame has a picture")
+        self.assertFalse((self.folder / "all").exists())
+
+    def test_both_kinds_of_moving_pictures(self) -> None:
+        # A fake of ffmpeg keeps its words, and makes a copy of what it is given.
+        last = 'for last; do :; done; echo "$@" > "$0.words"'
+        copy = 'while [ "$1" != -i ]; do shift; done; cp "$2" "$last"'
+        fake = self.program("bin/ffmpeg", f"#!/bin/sh\n{last}\n{copy}\n")
+        path = f"{self.folder / 'bin'}:{os.environ['PATH']}"
+        self.patch(mock.patch.dict(os.environ, PATH=path, TMPDIR=self.temporary()))
+        moving, video = self.folder / "out.png", self.folder / "out.WEBM"
+        words = ("--apng", str(moving), "--video", str(video), "--longest", "9")
+        status, output, said = self.pictures(*words)
+        told = [line.partition(": 3 pictures, ")[0] for line in output.decode().splitlines()]
+        self.assertEqual((status, told, said), (0, [str(moving), str(video)], ""))
+        self.assertEqual(video.read_bytes(), moving.read_bytes())
+        asked = Path(f"{fake}.words").read_text()
+        self.assertIn("-c:v libvpx-vp9 ", asked)
+        self.assertIn("fps=70,", asked)
 
     def test_what_becomes_of_the_words(self) -> None:
         # Two polls, a write half a second later, and a flip.

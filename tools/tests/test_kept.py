@@ -144,6 +144,12 @@ class Kept(Folder):
         self.assertTrue([line for line in told if line.endswith(differing)], output)
         self.assertEqual(told[-1], "all is as it was kept: the verdict and 1 picture")
 
+    def test_one_with_a_comment(self) -> None:
+        self.keep()
+        with zipfile.ZipFile(self.zip, "a") as archive:
+            archive.comment = 0xFFFF * b"c"
+        self.assertTrue(self.judge(self.zip)[1].endswith("the verdict and 1 picture\n"))
+
     def test_a_verdict_of_fewer_lines(self) -> None:
         self.keep()
         lines = (self.recorded / "verdict.txt").read_bytes().splitlines(keepends=True)

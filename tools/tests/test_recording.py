@@ -445,6 +445,15 @@ class Recorded(Folder):
         sums = {f"{self.folder}/{name}": sha256(data).hexdigest() for name, data in files.items()}
         self.assertEqual((note["software"], note["has_beam"]), (sums, False))
 
+    def test_a_plugin_is_built_for_chain_4(self) -> None:
+        built = 'echo "$@" > "$0.words"; while [ "$1" != -o ]; do shift; done; echo > "$2"'
+        gcc = self.program("bin/gcc", f"#!/bin/sh\n{built}\n")
+        self.assertEqual(self.record("--chain-4")[0], 0)
+        self.assertIn("trace/chain4.c", Path(f"{gcc}.words").read_text())
+        words = self.note()["words"]
+        self.assertEqual(Path(words.pop(3)).name, "chain4.so")
+        self.assertEqual(words, ["-device", "VGA", "-plugin", "-d", "plugin", "-cdrom", "disc"])
+
     def test_what_can_not_be_judged_again(self) -> None:
         program = ("--vga", self.answering("ok"))
         for name, note, told in (
