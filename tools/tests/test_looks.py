@@ -331,6 +331,15 @@ class Files(Seen):
             self.assertEqual(planes[2][2][1][:33] if scale == 1 else row, row)
             self.assertEqual([one for one in planes if any(map(any, one[2]))], planes[2:3])
 
+    def test_the_page_that_is_shown_is_one_wherever_it_begins(self) -> None:
+        words = "0 int 3 0 0 0\n1 int 0100 0 2000 0\n2 w p 3D4 010C 2\n2 w p 3D4 070D 2\n"
+        trace = self.write("moved", words + "3 w m B8210 0741 2\n")
+        out, pages = self.folder / "out.png", self.folder / "pages"
+        self.assertIn("page-0107.png\n", self.done("screen", trace, out, "--pages", pages))
+        shown = png_rows(out.read_bytes())
+        self.assertEqual(png_rows((pages / "page-0107.png").read_bytes()), shown)
+        self.assertNotEqual(png_rows((pages / "page-0000.png").read_bytes()), shown)
+
     def test_a_picture_on_standard_output(self) -> None:
         out = self.folder / "out.png"
         self.done("screen", self.calls, out, "--at", "1.5", "--scale", "2")
