@@ -16,7 +16,7 @@ from zaklimot_tools.report.listing import Row, chosen
 from zaklimot_tools.report.modes import StepList
 from zaklimot_tools.report.words import parser
 
-from .test_run import Fake
+from .running import Fake
 from .tools import PROGRAM, RED, begin, hold, hold_refused, png_rows, run_tool, want_program
 
 # What the fake program's frame answers, and its dump of two lines.
