@@ -139,8 +139,9 @@ class Registry(Folder):
     def test_a_file_that_has_changed_is_not_written_over(self) -> None:
         path = self.write("script", "old")
         files().reads(path)
-        self.assertRegex(refused(write_over, path, b"new", b"other"), "has changed since it was")
-        self.assertEqual((self.names(), Path(path).read_text()), (["script"], "old"))
+        for was in (b"other", b"odd", b"", b"old\n"):
+            self.assertRegex(refused(write_over, path, b"new", was), "has changed since it was")
+            self.assertEqual((self.names(), Path(path).read_text()), (["script"], "old"))
         write_over(path, b"new", b"old")
         self.assertEqual(Path(path).read_text(), "new")
 
