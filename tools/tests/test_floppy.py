@@ -257,6 +257,19 @@ class Images(Folder):
         self.assertEqual((reports / "host" / "one.two.report").read_bytes(), b"1 CC\n")
         self.assertEqual((reports / "three.report").read_bytes(), b"")
 
+    def test_all_registers_of_each_script(self) -> None:
+        # Function 0F answers in AX and BX.
+        scripts = {name: script_of(b"int ax=0F00\n", name) for name in ("one", "two")}
+        image = self.folder / "image"
+        image.write_bytes(Machine(image_for(scripts, "it")).image)
+        for number, words in enumerate(((), ("--all-registers",))):
+            reports = self.folder / f"reports{number}"
+            self.assertEqual(run("read", *words, image, reports), (0, b"", ""))
+            rest = b"cx=1234 dx=1234" if words else b"cx=0000 dx=0000"
+            for name in scripts:
+                told = (reports / f"{name}.report").read_bytes()
+                self.assertEqual(told, b"1 ax=DEAD bx=1234 %b\n" % rest)
+
     def test_one_alone_has_a_folder_too(self) -> None:
         image = self.folder / "image"
         image.write_bytes(Machine(image_for({"one": script_of(b"in 3CC\n", "one")}, "one")).image)
