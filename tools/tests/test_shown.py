@@ -177,6 +177,19 @@ class Together(Fake):
 
 
 @unittest.skipIf(sys.platform == "win32", "a script is a program on POSIX")
+class Stopped(Fake):
+    def test_the_state_before_a_step(self) -> None:
+        # No step: what the adapter has at power-on. More than there are: at the end.
+        want_program()
+        path = self.write("one.vga", "out 3C2 63\n")
+        for until, misc, steps in (("0", "misc 00", 4), ("1", "misc 63", 5), ("9", "misc 63", 5)):
+            words = ("run", path, "--vga", PROGRAM, "--until", until)
+            status, told, said = run_tool("vga-report", *words)
+            self.assertEqual((status, said), (0, ""))
+            self.assertIn(f"show regs           {misc}\n", told.decode())
+            self.assertTrue(told.decode().endswith(f"\n{steps} steps, 0 pictures\n"), told)
+
+
 class Written(Fake):
     """Answers that are written into a script."""
 
