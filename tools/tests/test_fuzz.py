@@ -215,6 +215,11 @@ class Fuzzing(Folder):
         self.assertTrue(lines[0].startswith("seed 3: 4 inputs in "))
         self.assertIn("        4 done", lines)
 
+    def test_want_of_memory_is_nothing_wrong(self) -> None:
+        path = self.program_that("sys.exit('vga: F10 OutOfMemory')")
+        for given in (SCRIPT, TEXT):
+            self.assertEqual(self.fed(given, path), "F10 OutOfMemory")
+
     def test_without_a_name_the_program_is_found(self) -> None:
         found = mock.patch.object(command, "found_program", return_value=self.program_that())
         with found, mock.patch.object(Program, "feed", return_value="done"):
