@@ -207,9 +207,8 @@ class JsonArray:
 
     def add(self, entry: object) -> None:
         """Writes an entry."""
-        begin = ",\n" if self._count else "\n"
-        self._count += 1
-        self._write(begin + json.dumps(entry))
+        self.begin_entry()
+        self._write(json.dumps(entry))
 
     def end(self) -> None:
         """Ends the array."""
