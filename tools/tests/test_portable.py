@@ -170,6 +170,17 @@ class Compiled(Cache):
         self.assertEqual(self.left(), [paths[2].parent.name, f"{paths[2].parent.name}/vga"])
         self.assertIn("-m64 -std=c99", self.notes.read_text())
 
+    def test_anew_for_each_source_that_changed_in_its_place(self) -> None:
+        sources = [Path(self.write(path.name, "1")) for path in portable.SOURCES]
+        paths = []
+        with mock.patch.object(portable, "SOURCES", tuple(sources)):
+            for number in range(len(sources) + 1):
+                if number:
+                    sources[number - 1].write_text("2")
+                paths.append(self.found()[0])
+            self.assertEqual(self.found(), (paths[-1], ""))
+        self.assertEqual((len(set(paths)), self.noted()), (4, 4))
+
     def release(self) -> None:
         while portable._in_use:
             os.close(portable._in_use.pop())
