@@ -453,28 +453,34 @@ def _floyd(rows: Sequence[Row], colours: Sequence[Colour]) -> Iterator[bytes]:
         yield from arrays.floyd_rows(rows, colours, FINE)
         return
     nearest = Nearest(colours)
-    width = len(rows[0])
-    below = [[0, 0, 0] for _ in range(width + 2)]
+    shades = [(FINE * red, FINE * green, FINE * blue) for red, green, blue in colours]
+    owed = [(0, 0, 0)] * len(rows[0])
+    half = FINE // 2
     for row in rows:
-        above = below
-        below = [[0, 0, 0] for _ in range(width + 2)]
-        ahead = [0, 0, 0]
-        made = bytearray(width)
-        for x, dot in enumerate(row):
-            owed = above[x + 1]
-            wanted = [
-                _clamped(dot[part] + (owed[part] + ahead[part] + 8 >> 4), MOST * FINE)
-                for part in range(3)
-            ]
-            red, green, blue = ((value + FINE // 2) // FINE for value in wanted)
-            number = made[x] = nearest((red, green, blue))
-            for part, value in enumerate(wanted):
-                error = value - FINE * colours[number][part]
-                ahead[part] = 7 * error
-                below[x][part] += 3 * error
-                below[x + 1][part] += 5 * error
-                below[x + 2][part] += error
+        made = bytearray()
+        # What the dots are off, with a zero before the first.
+        reds, greens, blues = [0], [0], [0]
+        for (red, green, blue), (more_red, more_green, more_blue) in zip(row, owed):
+            red = _clamped(red + (more_red + 7 * reds[-1] + 8 >> 4), MOST * FINE)
+            green = _clamped(green + (more_green + 7 * greens[-1] + 8 >> 4), MOST * FINE)
+            blue = _clamped(blue + (more_blue + 7 * blues[-1] + 8 >> 4), MOST * FINE)
+            number = nearest(((red + half) // FINE, (green + half) // FINE, (blue + half) // FINE))
+            made.append(number)
+            near_red, near_green, near_blue = shades[number]
+            reds.append(red - near_red)
+            greens.append(green - near_green)
+            blues.append(blue - near_blue)
+        owed = list(zip(_owed_below(reds), _owed_below(greens), _owed_below(blues)))
         yield bytes(made)
+
+
+def _owed_below(errors: list[int]) -> Iterator[int]:
+    """What the dots of a row owe to each dot below it, in sixteenths, in one component. They are
+    off by so much; a zero stands before the first."""
+    behind = [*errors[2:], 0]
+    return (
+        before + 5 * above + 3 * after for before, above, after in zip(errors, errors[1:], behind)
+    )
 
 
 def _nearest(rows: Sequence[Row], colours: Sequence[Colour]) -> Iterator[bytes]:
