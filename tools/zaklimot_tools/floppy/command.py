@@ -45,8 +45,10 @@ def _script(path: str) -> Script:
 
 def scripts_of(path: str) -> dict[str, Script]:
     """The script of a file; or those of a folder, by the names that its list has."""
-    if not os.path.isdir(path) or not os.path.exists(os.path.join(path, LIST)):
+    if not os.path.isdir(path):
         return {"": _script(path)}
+    if not os.path.exists(os.path.join(path, LIST)):
+        raise Trouble(f"it is a folder without {LIST}, which `vga-report scripts` writes", path)
     listed = read_at_most(os.path.join(path, LIST), MOST_BYTES)
     names = [os.fsdecode(line.split(b" ")[0]) for line in listed.split(b"\n") if line]
     # The names in the list have the ends that tell text from bytes, and those of reports have none.

@@ -4,6 +4,7 @@ from typing import Callable, Iterable, Iterator, NamedTuple, Sequence
 
 from zaklimot import format
 from zaklimot.format import Picture
+from zaklimot_tools.core.streams import counted
 
 from .cells import cells_of, loading, own_glyphs, put_cells, rows_of, typed_cells, with_glyphs
 from .colours import Colour, Indexed
@@ -47,8 +48,8 @@ def _drawn(
     """A script: mode, colours, its parts, and its frame, whose picture has each pixel as wide and
     high as the mode."""
     note = (
-        f"A picture of {mode.width} by {mode.height} pixels and {count} colours, in mode"
-        f" {mode.name}"
+        f"A picture of {mode.width} by {mode.height} pixels and {counted(count, 'colour')}, in"
+        f" mode {mode.name}"
     )
     note += ", made by vga-picture. Numbers are hexadecimal, but the count of `repeat`."
     cycles = SET_CYCLES + (

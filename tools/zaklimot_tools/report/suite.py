@@ -12,6 +12,7 @@ from threading import Event
 from typing import BinaryIO, Iterator, NamedTuple, Optional, Sequence
 
 from zaklimot.format import FAULT, MOST_BYTES, Answer, Picture
+from zaklimot_tools.core.cli import say
 from zaklimot_tools.core.files import STANDARD, name_of
 from zaklimot_tools.core.processes import Limits, command_words, in_parallel, run_command
 from zaklimot_tools.core.progress import Progress
@@ -149,12 +150,16 @@ def _status(counts: dict[str, int]) -> int:
 def expected(words: argparse.Namespace, progress: Progress) -> int:
     """Writes the pictures that the suite expects into a folder."""
     folder = empty_folder(words.folder)
+    is_written = False
     for case in _chosen(words):
         for number, picture in _pictures_in(case.expected_steps()):
             path = folder / f"{case.name}-{number:04}.png"
             path.parent.mkdir(parents=True, exist_ok=True)
             save_png(str(path), picture)
             write_name(path)
+            is_written = True
+    if not is_written:
+        say("vga-report: no picture is expected of these cases, so none is written\n")
     return AGREED
 
 

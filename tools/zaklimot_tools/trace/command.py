@@ -77,6 +77,9 @@ def count_kinds(words: argparse.Namespace, _: Progress) -> None:
         found = count(islice(trace.cycles(words.to), words.from_ - 1, None))
         if trace.polls:
             found["read port 3DA or 3BA, folded"] = trace.polls
+        if not found:
+            told = f"it has {counted(trace.count, 'cycle', ',')}, and no cycle {words.from_:,}"
+            raise Trouble(told, trace.name)
     warn(trace, name_of(words.trace))
     print("\n".join(f"{number:12,} {kind}" for kind, number in found.most_common()))
 
