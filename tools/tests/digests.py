@@ -1,9 +1,10 @@
-"""The digests of what `vga-steps make` makes of one seed, for each kind.
+"""The digests of what seeds make: of the elements of each kind by `vga-steps make`, and of the
+inputs of `vga-fuzz`.
 
     cd tools && python3 -m tests.digests
 
-writes them anew, as `digests.json`: do so after a change that is meant to make other elements, and
-tell in CHANGELOG.md that a seed now makes others.
+writes them anew, as `digests.json`: do so after a change that is meant to make others, and tell in
+CHANGELOG.md that a seed now makes others.
 """
 
 from __future__ import annotations
@@ -12,19 +13,30 @@ import hashlib
 import json
 import tempfile
 from pathlib import Path
+from random import Random
 
-from .stepping import steps, told
+from zaklimot.format import encode, parse_text
+from zaklimot_tools.dev.fuzz.making import make
+
+from .stepping import compile_library, steps, told
 
 FILE = Path(__file__).with_suffix(".json")
-# Rare choices come in as many elements, and not in those of examples/steps.
-COUNT = 200
 SEED = 3
+# Rare choices come in as many elements, and not in those of examples/steps.
+ELEMENTS = 200
+INPUTS = 1500
+# Texts that are changed.
+TEXTS = (
+    b"out 3C2 63 ; colour addresses\nput A0000 FF\nin 3DA\nframe\n",
+    b"version 2\nint ax=3\nrepeat 3\ngetw B8000\nend\nshow plane 0 10 20\nadvance 720\n",
+)
 
 
-def made() -> dict[str, str]:
+def elements() -> dict[str, str]:
     """The SHA-256 of each kind's file, unpacked."""
+    compile_library()
     with tempfile.TemporaryDirectory() as folder:
-        words = ("--count", COUNT, "--seed", SEED, "--jobs", 4)
+        words = ("--count", ELEMENTS, "--seed", SEED, "--jobs", 4)
         status, output, said = steps("make", folder, *words)
         assert (status, said) == (0, ""), said
         return {
@@ -33,5 +45,16 @@ def made() -> dict[str, str]:
         }
 
 
+def inputs() -> dict[str, str]:
+    """The SHA-256 of all inputs that are made in one way, by its name."""
+    scripts = [encode(parse_text(text)) for text in TEXTS]
+    found: dict[str, list[bytes]] = {}
+    for number in range(1, INPUTS + 1):
+        given = make(Random(f"{SEED}:{number}"), TEXTS, scripts)
+        found.setdefault(given.made, []).append(b"%d:%b" % (len(given.data), given.data))
+    return {name: hashlib.sha256(b"".join(made)).hexdigest() for name, made in found.items()}
+
+
 if __name__ == "__main__":
-    FILE.write_text(json.dumps(made(), indent=1, sort_keys=True) + "\n", "ascii")
+    kept = {"elements": elements(), "inputs": inputs()}
+    FILE.write_text(json.dumps(kept, indent=1, sort_keys=True) + "\n", "ascii")

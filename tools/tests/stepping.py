@@ -50,14 +50,19 @@ def told(path: Path) -> bytes:
 files: dict[str, Path] = {}
 
 
-def make_files() -> None:
-    """Makes the files of all kinds."""
+def compile_library() -> None:
+    """Compiles the library, unless it is, so that no run tells that it does."""
     if shutil.which(os.environ.get("CC") or "cc") is None:
         raise unittest.SkipTest(NO_COMPILER)
-    folder = tempfile.TemporaryDirectory()
-    unittest.addModuleCleanup(folder.cleanup)
     with contextlib.redirect_stderr(io.StringIO()):
         load()
+
+
+def make_files() -> None:
+    """Makes the files of all kinds."""
+    compile_library()
+    folder = tempfile.TemporaryDirectory()
+    unittest.addModuleCleanup(folder.cleanup)
     status, output, said = steps("make", folder.name, "--count", COUNT, "--seed", SEED, "--jobs", 4)
     assert (status, said) == (0, ""), said
     files.update({Path(name).name.partition(".")[0]: Path(name) for name in output.split()})

@@ -1,20 +1,21 @@
-"""A seed makes the same elements in each release: those who name an element by its seed, kind and
+"""A seed makes the same in each release: those who name an element or an input by its seed and
 number find it again."""
 
 import json
-import os
-import shutil
 import unittest
 
 from zaklimot_tools.steps.kinds import KINDS
 
 from . import digests
-from .stepping import NO_COMPILER
 
 
-@unittest.skipIf(shutil.which(os.environ.get("CC") or "cc") is None, NO_COMPILER)
 class Seeds(unittest.TestCase):
-    def test_the_elements_of_a_seed_are_what_they_were(self) -> None:
-        kept = json.loads(digests.FILE.read_text("ascii"))
-        self.assertEqual(set(kept), set(KINDS))
-        self.assertEqual(digests.made(), kept)
+    KEPT = json.loads(digests.FILE.read_text("ascii"))
+
+    def test_elements(self) -> None:
+        self.assertEqual(set(self.KEPT["elements"]), set(KINDS))
+        self.assertEqual(digests.elements(), self.KEPT["elements"])
+
+    def test_inputs(self) -> None:
+        self.assertEqual(len(self.KEPT["inputs"]), 8)
+        self.assertEqual(digests.inputs(), self.KEPT["inputs"])
