@@ -8,7 +8,7 @@ import os
 import re
 import shlex
 import unittest
-from itertools import groupby
+from itertools import chain, groupby
 from typing import Iterator
 
 from zaklimot_tools.core.version import version
@@ -41,6 +41,17 @@ def words_of(name: str) -> str:
     found = MAIN.search((TOOLS / name).read_text("utf-8"))
     assert found is not None, name
     return found[1]
+
+
+def parsers_of(name: str) -> list[argparse.ArgumentParser]:
+    """The parsers of a tool's commands, or the one of a tool that has none."""
+    module = importlib.import_module(words_of(name))
+    made = getattr(module, "parser", None) or getattr(module, "_parser")
+    parser: argparse.ArgumentParser = made()
+    for action in parser._actions:
+        if isinstance(action, argparse._SubParsersAction):
+            return list(action.choices.values())
+    return [parser]
 
 
 # What stands behind the last word of a command that is told.
@@ -117,15 +128,22 @@ class Words(unittest.TestCase):
 
     def test_each_command_has_a_job(self) -> None:
         for name in NAMES:
-            module = importlib.import_module(words_of(name))
-            made = getattr(module, "parser", None) or getattr(module, "_parser")
-            parsers = [made()]
-            for action in parsers[0]._actions:
-                if isinstance(action, argparse._SubParsersAction):
-                    parsers = list(action.choices.values())
-            for parser in parsers:
+            for parser in parsers_of(name):
                 with self.subTest(parser.prog):
                     self.assertTrue(callable(parser.get_default("job").found()))
+
+    def test_a_number_or_word_that_is_told_as_default_is_the_default(self) -> None:
+        told = {}
+        for parser in chain.from_iterable(map(parsers_of, NAMES)):
+            for action in parser._actions:
+                default = re.search(r"\(default: (\w+)\)", action.help or "")
+                # Without a value here the work chooses it, by what else is asked for.
+                if default is not None and action.default is not None:
+                    with self.subTest(parser.prog, option=action.dest):
+                        value = getattr(action.default, "value", action.default)
+                        self.assertEqual(str(value), default[1])
+                        told[f"{parser.prog} {action.dest}"] = default[1]
+        self.assertGreaterEqual(len(told), 30)
 
     def test_the_version_of_the_header_and_words_that_mean_nothing(self) -> None:
         for name in NAMES:
