@@ -41,7 +41,7 @@ class Cells(Folder):
     def test_a_rule_has_what_its_first_case_shows_that_is_not_the_same(self) -> None:
         differs = case(DIFFERS, answered="03", expected="67")
         failed = case(FAILED)
-        rows = (
+        rows: tuple[tuple[list[CaseResult], str], ...] = (
             ([case(AGREES), differs, failed], "03, not 67"),
             ([case(AGREES), failed, differs], WORD_FAILED),
             ([case(SKIPPED, 0), case(AGREES)], SAME),
