@@ -1,5 +1,5 @@
-"""The digests of what seeds make: of the elements of each kind by `vga-steps make`, and of the
-inputs of `vga-fuzz`.
+"""The digests of what seeds make: of the elements of each kind by `vga-steps make`, with how often
+they show each branch of each rule; and of the inputs of `vga-fuzz`.
 
     cd tools && python3 -m tests.digests
 
@@ -14,6 +14,7 @@ import json
 import tempfile
 from pathlib import Path
 from random import Random
+from typing import Union
 
 from zaklimot.format import encode, parse_text
 from zaklimot_tools.dev.fuzz.making import make
@@ -32,17 +33,23 @@ TEXTS = (
 )
 
 
-def elements() -> dict[str, str]:
-    """The SHA-256 of each kind's file, unpacked."""
+def elements() -> tuple[dict[str, str], dict[str, str]]:
+    """The SHA-256 of each kind's file, unpacked; and that of the counts of the branches that it
+    shows."""
     compile_library()
     with tempfile.TemporaryDirectory() as folder:
         words = ("--count", ELEMENTS, "--seed", SEED, "--jobs", 4)
         status, output, said = steps("make", folder, *words)
         assert (status, said) == (0, ""), said
-        return {
-            path.name.partition(".")[0]: hashlib.sha256(told(path)).hexdigest()
-            for path in map(Path, output.split())
-        }
+        files = {Path(name).name.partition(".")[0]: Path(name) for name in output.split()}
+        counted = json.loads(steps("coverage", *files.values(), "--json", "--jobs", 4)[1])
+        digests = {name: _digest(told(path)) for name, path in files.items()}
+        shown = zip(files, counted["files"])
+        return digests, {name: _digest(json.dumps(one["branches"])) for name, one in shown}
+
+
+def _digest(data: Union[bytes, str]) -> str:
+    return hashlib.sha256(data.encode() if isinstance(data, str) else data).hexdigest()
 
 
 def inputs() -> dict[str, str]:
@@ -52,9 +59,10 @@ def inputs() -> dict[str, str]:
     for number in range(1, INPUTS + 1):
         given = make(Random(f"{SEED}:{number}"), TEXTS, scripts)
         found.setdefault(given.made, []).append(b"%d:%b" % (len(given.data), given.data))
-    return {name: hashlib.sha256(b"".join(made)).hexdigest() for name, made in found.items()}
+    return {name: _digest(b"".join(made)) for name, made in found.items()}
 
 
 if __name__ == "__main__":
-    kept = {"elements": elements(), "inputs": inputs()}
+    files, branches = elements()
+    kept = {"elements": files, "branches": branches, "inputs": inputs()}
     FILE.write_text(json.dumps(kept, indent=1, sort_keys=True) + "\n", "ascii")

@@ -12,9 +12,11 @@ from . import digests
 class Seeds(unittest.TestCase):
     KEPT = json.loads(digests.FILE.read_text("ascii"))
 
-    def test_elements(self) -> None:
+    def test_elements_and_the_branches_that_they_show(self) -> None:
         self.assertEqual(set(self.KEPT["elements"]), set(KINDS))
-        self.assertEqual(digests.elements(), self.KEPT["elements"])
+        elements, branches = digests.elements()
+        self.assertEqual(elements, self.KEPT["elements"])
+        self.assertEqual(branches, self.KEPT["branches"])
 
     def test_inputs(self) -> None:
         self.assertEqual(len(self.KEPT["inputs"]), 8)
