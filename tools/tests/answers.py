@@ -26,6 +26,7 @@ from typing import Iterable, Iterator, Mapping, Union
 
 from zaklimot_tools.script.words import FONTS
 
+from .stepping import compile_library
 from .tools import EXAMPLES, PROGRAM, TOP, ended, ppm, run_tool
 
 FILE = Path(__file__).with_suffix(".json")
@@ -133,7 +134,8 @@ def _images() -> Iterator[tuple[str, bytes]]:
 
 @lru_cache(None)
 def given_files() -> dict[str, bytes]:
-    """The files that the commands read, by their names."""
+    """The files that the commands read, by their names. What they run is compiled before."""
+    compile_library()
     with tempfile.TemporaryDirectory() as made:
         folder = Path(made)
         _lay(folder, {name: text.encode() for name, text in TEXTS.items()})
