@@ -8,6 +8,7 @@ writes that file anew: look at each answer that has changed before you commit it
 
 from __future__ import annotations
 
+import contextlib
 import gzip
 import hashlib
 import io
@@ -24,6 +25,7 @@ from functools import lru_cache
 from pathlib import Path
 from typing import Iterable, Iterator, Mapping, Union
 
+from zaklimot_tools.script.program import found_program
 from zaklimot_tools.script.words import FONTS
 
 from .stepping import compile_library
@@ -136,6 +138,8 @@ def _images() -> Iterator[tuple[str, bytes]]:
 def given_files() -> dict[str, bytes]:
     """The files that the commands read, by their names. What they run is compiled before."""
     compile_library()
+    with contextlib.redirect_stderr(io.StringIO()):
+        found_program()
     with tempfile.TemporaryDirectory() as made:
         folder = Path(made)
         _lay(folder, {name: text.encode() for name, text in TEXTS.items()})
