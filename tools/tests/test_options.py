@@ -1,0 +1,97 @@
+"""Options of `vga-report` beside one another: which of them contradict others, which is told before
+any work, and which only look so."""
+
+from __future__ import annotations
+
+import os
+from functools import partial
+
+from .tools import BLACK, Folder, ppm, report, run_tool
+
+
+PICTURE = ppm(9, 1, BLACK * 9)
+# What is told of options, and the words in which they stand beside one that they contradict.
+CONTRADICTING = {
+    "--bless writes into the script, whole: it wants a file, and no --until": (
+        "run s.vga --bless --until 1",
+        "run s.vga --bless --until 0",
+        "run - --bless",
+    ),
+    "--bless lists its changes: without --json": (
+        "run s.vga --bless --json o",
+        "run s.vga --bless --json -",
+        "run s.vga --bless --diff --json o",
+    ),
+    "--debug writes a page that runs the script: without --bless, --pictures and --show": (
+        "run s.vga --debug o --pictures p",
+        "run s.vga --debug - --show",
+        "run s.vga --debug o --bless",
+    ),
+    "--debug runs nothing here: without --only, --try and --vga": (
+        "run s.vga --debug o --only 1",
+        "run s.vga --debug o --try",
+        "run s.vga --debug o --vga ./vga",
+    ),
+    "a folder of scripts, and --junit, want none of --bless, --only, --pictures, --show and"
+    " --debug": tuple(
+        f"run {script} {option}"
+        for script in ("scripts", "s.vga --junit o")
+        for option in ("--bless", "--only 1", "--pictures p", "--show", "--debug q")
+    ),
+    "--watch wants a file that changes, and not standard input": ("run - --watch",),
+    "the pictures want a folder, or --apng a file": ("pictures r", "pictures r --ppm"),
+    "--apng writes one file, with neither a folder nor --ppm": (
+        "pictures r p --apng o",
+        "pictures r --apng o --ppm",
+        "pictures r - --apng -",
+    ),
+    "--ppm gives the bytes as they are, with neither --scale nor --aspect": (
+        "pictures r p --ppm --scale 2",
+        "pictures r p --ppm --aspect",
+    ),
+    "--expected tells the first step that differs: without --all, --picture and --html": tuple(
+        f"compare r e --expected {option}" for option in ("--all", "--picture o", "--html o")
+    ),
+    "the command is one word of the shell: 'true {script}'": ("suite true {script} --list l",),
+}
+# Options that look as if they did, and the exit status of the work that is done.
+TOGETHER = (
+    ("run s.vga --vga ./vga --bless --diff", 0),
+    ("run s.vga --vga ./vga --diff --json - --until 0", 0),
+    ("run s.vga --vga ./vga --quiet --only 1 --show --strict --jobs 2", 0),
+    ("run scripts --vga ./vga --strict --until 0 --quiet --diff", 0),
+    ("run s.vga --debug - --until 0 --quiet --strict", 0),
+    ("pictures r - --ppm --scale 1", 0),
+    ("compare r e --expected --scale 2", 0),
+)
+
+
+class Options(Folder):
+    def setUp(self) -> None:
+        super().setUp()
+        self.write("s.vga", "frame\n")
+        self.write("scripts/s.vga", "frame\n")
+        self.report("r", PICTURE)
+        self.write("e", "1 picture 37 9x1\n000000*9\n")
+        # It answers one step, or the state before it.
+        go = "[ $1 = go ] || exit 1\n[ $5 ] && printf '1 a\\n2 a\\n3 a\\n4 a\\n' || cat r\n"
+        self.program("vga", f"#!/bin/sh\n{go}")
+
+    def done(self, words: str) -> tuple[int, bytes, str]:
+        """Exit status, output and standard error of the command in the folder."""
+        prepare = partial(os.chdir, self.folder)
+        return run_tool("vga-report", *words.split(), given=report(PICTURE), prepare=prepare)
+
+    def test_those_that_contradict_others_are_told_before_any_work(self) -> None:
+        before = self.names()
+        for told, lines in CONTRADICTING.items():
+            for words in lines:
+                with self.subTest(words):
+                    self.assertEqual(self.done(words), (2, b"", f"vga-report: {told}\n"))
+                    self.assertEqual(self.names(), before)
+
+    def test_those_that_only_look_so_do_their_work(self) -> None:
+        for words, status in TOGETHER:
+            with self.subTest(words):
+                done = self.done(words)
+                self.assertEqual((done[0], done[2]), (status, ""))
