@@ -19,7 +19,7 @@ from unittest import mock
 from zaklimot.format import MOST_BYTES, Picture, count_in, decimal, parse_text, steps_in
 from zaklimot_tools.core.streams import bytes_of, read_at_most
 from zaklimot_tools.core.trouble import Trouble
-from zaklimot_tools.core.words import number_to
+from zaklimot_tools.core.words import number_to, seconds
 from zaklimot_tools.explain.faults import read_script
 from zaklimot_tools.explain.mistakes import mistake_in
 from zaklimot_tools.floppy import image
@@ -102,6 +102,32 @@ class Numbers(unittest.TestCase):
             return None
 
         hold(self, read, rows)
+
+    def test_a_number_of_seconds(self) -> None:
+        def read(word: str) -> Optional[float]:
+            with contextlib.suppress(argparse.ArgumentTypeError):
+                return seconds(word)
+            return None
+
+        rows = (
+            ("86400", 86400.0),
+            ("86400.1", None),
+            ("0.001", 0.001),
+            ("0", None),
+            ("-0", None),
+            ("-1", None),
+            ("nan", None),
+            ("inf", None),
+            ("soon", None),
+            ("", None),
+        )
+        hold(self, read, rows)
+
+    def test_a_word_is_shown_whole_or_by_its_front(self) -> None:
+        for length, shown in ((40, "x" * 40), (41, "x" * 40 + "..")):
+            with self.assertRaises(argparse.ArgumentTypeError) as raised:
+                number_to(9)("x" * length)
+            self.assertEqual(str(raised.exception), f"'{shown}' is no number from 1 to 9")
 
     def test_options_with_wrong_numbers_are_told_in_short(self) -> None:
         for option, told in (

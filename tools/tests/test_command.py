@@ -644,7 +644,7 @@ class Suite(Folder):
     def test_the_rule_is_the_first_line_of_the_first_comment(self) -> None:
         for text, rule in (
             ("; The rule.\n; More.\nframe\n", "The rule."),
-            ("frame ; Behind.\n", "Behind."),
+            ("frame ; Behind; it.\n", "Behind; it."),
             ("frame\n", "a"),
             (";\n;  Zw\u00f6lf. \n", "Zw\u00f6lf."),
             ("; \x1b[2Jbad\n", "?[2Jbad"),

@@ -13,6 +13,7 @@ import unittest
 from pathlib import Path
 from unittest import mock
 
+from zaklimot_tools.core.cli import Ended
 from zaklimot_tools.core.files import (
     Input,
     Output,
@@ -114,13 +115,15 @@ class Registry(Folder):
             self.assertRegex(refused(files().refuse_input, path), "it is read as")
 
     def test_folders_that_were_made_in_vain(self) -> None:
+        # However the run ends: the user may end it too, and the system.
         for is_filled in (False, True):
-            with self.assertRaises(OSError), files_of_run() as own:
-                folder = own.make_folder(self.folder / "a" / "b")
-                if is_filled:
-                    (folder / "file").touch()
-                raise OSError
-            self.assertEqual((self.folder / "a").exists(), is_filled)
+            for error in (OSError, KeyboardInterrupt, Ended):
+                with self.assertRaises(error), files_of_run() as own:
+                    folder = own.make_folder(self.folder / "a" / "b")
+                    if is_filled:
+                        (folder / "file").touch()
+                    raise error
+                self.assertEqual((self.folder / "a").exists(), is_filled)
         with files_of_run() as own:
             own.make_folder(self.folder / "kept")
         self.assertTrue((self.folder / "kept").is_dir())

@@ -74,6 +74,27 @@ class Harnesses(Folder):
         done = self.done("scripts", "none", "--list", "-", given=b"one\n\na b\n")
         self.assertEqual(done, (2, "", "vga-report: standard input:3: no case: 'a b'\n"))
 
+    def test_blanks_and_headings_of_a_list(self) -> None:
+        self.write("two.fnt", "12")
+        text = "#two\n\t# two\n  fonts two.fnt \n\n \t one\t\n\ttwo until 0\r\n"
+        self.write("list.txt", text)
+        self.assertEqual(self.done("scripts", "made", "--list", "list.txt")[0], 0)
+        listed = (self.folder / "made/list.txt").read_text()
+        self.assertEqual(listed, "one.vga fonts/two.fnt\ntwo.vga fonts/two.fnt\n")
+        self.assertTrue((self.folder / "made/two.vga").read_text().startswith("show regs\n"))
+
+    def test_a_machine_that_can_be_stopped_gets_no_step_that_is_refused(self) -> None:
+        # A case is stopped before its end, or behind what is refused.
+        self.write("one.vga", "get 0\ncrash\n")
+        self.write("one.txt", "1 FF\n2 E1 NotDecoded\n")
+        self.write("two.vga", "get 0\nget 0\ncrash\n")
+        self.write("two.txt", "1 FF\n2 FF\n3 regs\n4 beam\n5 latches\n6 bda\n")
+        self.write("list.txt", "one\none until 2\ntwo until 2\n")
+        words = ("suite", f"{ADAPTER} {{script}} {{until}}", "--machine", "--list", "list.txt")
+        status, output, said = self.done(*words)
+        self.assertEqual((status, said), (0, ""))
+        self.assertIn("(3 cases: 1 agree, 2 skipped)\n", output)
+
     def test_a_machine_answers_calls(self) -> None:
         self.write("call.vga", "int ax=3\nget 0\n")
         self.write("call.txt", CALLED + "2 E1 NotDecoded\n")

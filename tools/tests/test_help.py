@@ -8,7 +8,7 @@ import os
 import re
 import shlex
 import unittest
-from itertools import chain, groupby
+from itertools import groupby
 from typing import Iterator
 
 from zaklimot_tools.core.version import version
@@ -44,16 +44,23 @@ def words_of(name: str) -> str:
 
 
 def parsers_of(name: str) -> list[argparse.ArgumentParser]:
-    """The parsers of a tool's commands, or the one of a tool that has none."""
+    """The parsers of a tool's commands, or that of the tool where it has none."""
     module = importlib.import_module(words_of(name))
     made = getattr(module, "parser", None) or getattr(module, "_parser")
-    parser: argparse.ArgumentParser = made()
-    for action in parser._actions:
+    parsers: list[argparse.ArgumentParser] = [made()]
+    for action in parsers[0]._actions:
         if isinstance(action, argparse._SubParsersAction):
-            return list(action.choices.values())
-    return [parser]
+            parsers = list(action.choices.values())
+    return parsers
 
 
+# The defaults of options that a help tells by other words; of no others a text names the value.
+TOLD_OTHERWISE = {
+    "standard output": "-",
+    "any number": "0",
+    "fonts: the project's": str(TOP / "fonts" / "zaklimot.fnt"),
+    "list: the project's": str(TOP / "crates" / "vga_suite" / "data" / "list.txt"),
+}
 # What stands behind the last word of a command that is told.
 EXPLAINED = re.compile(r"([A-Z]{4,}\]?) +[a-z].*")
 
@@ -132,18 +139,19 @@ class Words(unittest.TestCase):
                 with self.subTest(parser.prog):
                     self.assertTrue(callable(parser.get_default("job").found()))
 
-    def test_a_number_or_word_that_is_told_as_default_is_the_default(self) -> None:
-        told = {}
-        for parser in chain.from_iterable(map(parsers_of, NAMES)):
+    def test_the_defaults_that_are_told_hold(self) -> None:
+        held = 0
+        for parser in (parser for name in NAMES for parser in parsers_of(name)):
             for action in parser._actions:
-                default = re.search(r"\(default: (\w+)\)", action.help or "")
-                # Without a value here the work chooses it, by what else is asked for.
-                if default is not None and action.default is not None:
-                    with self.subTest(parser.prog, option=action.dest):
-                        value = getattr(action.default, "value", action.default)
-                        self.assertEqual(str(value), default[1])
-                        told[f"{parser.prog} {action.dest}"] = default[1]
-        self.assertGreaterEqual(len(told), 30)
+                told = re.search(r"\(default: ([^)]*)\)", action.help or "")
+                if told is None or action.default is None or isinstance(action.default, bool):
+                    continue
+                with self.subTest(parser.prog, option=action.dest):
+                    own = TOLD_OTHERWISE.get(f"{action.dest}: {told[1]}")
+                    wanted = own or TOLD_OTHERWISE.get(told[1], told[1].replace(",", ""))
+                    self.assertEqual(str(action.default), wanted)
+                    held += 1
+        self.assertGreater(held, 50)
 
     def test_the_version_of_the_header_and_words_that_mean_nothing(self) -> None:
         for name in NAMES:

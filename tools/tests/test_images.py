@@ -214,6 +214,9 @@ class Animations(Folder):
             (404_099, 0.029),
             (404_100, 0.043),
             (4_041_000, 0.171),
+            # The most that the adapter takes; more is refused.
+            (16_777_216, 0.614),
+            (16_777_217, 0.029),
             (99_999_999, 0.029),
         ):
             script = self.write("s.vga", f"int ax=3\nframe\nadvance {dots}\nframe\n")
@@ -222,6 +225,17 @@ class Animations(Folder):
         # One step of those that differ in size.
         self.report("r", PICTURE, ppm(1, 1, RED))
         self.assertEqual(run("pictures", path, "--apng", moving, "--step", "2")[0], 0)
+
+    def test_a_script_of_other_steps(self) -> None:
+        # Also where it has a frame behind the step.
+        moving = self.folder / "m.png"
+        script = self.write("s.vga", "int ax=3\nframe\nint ax=3\nframe\n")
+        for number in (1, 3):
+            path = self.report("r", *["ok"] * (number - 1), PICTURE)
+            done = run("pictures", path, "--apng", moving, "--script", script)
+            told = f"it is not the report's script: step {number} has a picture, and is no frame of"
+            self.assertEqual(done, (2, b"", f"vga-report: {script}: {told} it\n"))
+            self.assertFalse(moving.exists())
 
     def test_the_order_of_the_frames(self) -> None:
         # The chunks of frames but the first's dots are numbered, and all play without an end.

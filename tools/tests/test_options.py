@@ -1,10 +1,14 @@
-"""Options of `vga-report` beside one another: which of them contradict others, which is told before
-any work, and which only look so."""
+"""Options of `vga-report`: the bounds of their numbers; which of them contradict others, which is
+told before any work, and which only look so."""
 
 from __future__ import annotations
 
+import contextlib
+import io
 import os
 from functools import partial
+
+from zaklimot_tools.report.words import parser
 
 from .tools import BLACK, Folder, ppm, report, run_tool
 
@@ -64,6 +68,18 @@ TOGETHER = (
     ("pictures r - --ppm --scale 1", 0),
     ("compare r e --expected --scale 2", 0),
 )
+# The words of a number, the least that it may be, and the most.
+BOUNDS = (
+    ("run s --until {}", 0, 4_294_967_295),
+    ("run s --jobs {}", 1, 256),
+    ("run s --scale {}", 1, 1000),
+    ("suite c --jobs {}", 1, 256),
+    ("suite c --output {}", 1, 1_048_576),
+    ("pictures r p --step {}", 1, 4_294_967_295),
+    ("pictures r p --scale {}", 1, 1000),
+    ("compare r s --scale {}", 1, 1000),
+    ("compare-picture r {} i", 1, 4_294_967_295),
+)
 
 
 class Options(Folder):
@@ -81,6 +97,23 @@ class Options(Folder):
         """Exit status, output and standard error of the command in the folder."""
         prepare = partial(os.chdir, self.folder)
         return run_tool("vga-report", *words.split(), given=report(PICTURE), prepare=prepare)
+
+    def test_numbers_have_bounds(self) -> None:
+        for words, least, most in BOUNDS:
+            for number in (least, most):
+                self.assertIn(number, self.parsed(words.format(number)))
+            for number in (least - 1, most + 1):
+                with self.subTest(words, number=number):
+                    said = io.StringIO()
+                    with contextlib.redirect_stderr(said), self.assertRaises(SystemExit):
+                        self.parsed(words.format(number))
+                    told = f": '{number}' is no number from {least} to {most}\n"
+                    self.assertTrue(said.getvalue().endswith(told), said.getvalue())
+
+    def parsed(self, words: str) -> list[object]:
+        """The values of words, each by itself."""
+        values = vars(parser().parse_args(words.split())).values()
+        return [one for value in values for one in (value if isinstance(value, list) else [value])]
 
     def test_those_that_contradict_others_are_told_before_any_work(self) -> None:
         before = self.names()

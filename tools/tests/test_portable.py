@@ -9,18 +9,21 @@ import json
 import fcntl
 import os
 import re
+import shutil
 import signal
 import sys
 import unittest
+from functools import partial
 from pathlib import Path
 from unittest import mock
 
 from zaklimot.format import FORMS
 from zaklimot.format.table import END_CODE, REPEAT_CODE
+from zaklimot_tools.core.files import files_of_run
 from zaklimot_tools.core.trouble import Trouble
 from zaklimot_tools.dev.testing.running import BUILT
 from zaklimot_tools.script import portable, program
-from zaklimot_tools.script.portable import portable_program
+from zaklimot_tools.script.portable import portable_library, portable_program
 from zaklimot_tools.script.program import built_program, found_program
 from zaklimot_tools.script.program import PROGRAM as BUILT_PROGRAM
 
@@ -195,6 +198,34 @@ class Compiled(Cache):
         wanted = [place, f"{place}/vga", "of-library", "others", *kept]
         self.assertEqual(self.left(), sorted(wanted))
 
+    def test_the_library_is_of_the_same_sources_and_is_not_run(self) -> None:
+        os.environ["CC"] = self.compiler("cc", made="exit 3")
+        said = io.StringIO()
+        with contextlib.redirect_stderr(said):
+            paths = [portable_library() for _ in "12"]
+        self.assertEqual((len(set(paths)), self.noted()), (1, 1))
+        self.assertRegex(said.getvalue(), r"^\S+ compiles the library from .*: this library is ")
+        front = r"^-std=c99 -O2 -shared -fPIC -I \S+/include -o \S+/"
+        wanted = rf"{front}{portable.LIBRARY_NAME} \S+/portable/zaklimot\.c\n$"
+        self.assertRegex(self.notes.read_text(), wanted)
+        # The program is compiled beside it by the same compiler, and both stay.
+        os.environ["CC"] = self.compiler("cc")
+        program, _ = self.found()
+        self.assertEqual(self.found(), (program, ""))
+        self.assertTrue(Path(paths[0]).is_file())
+        with contextlib.redirect_stderr(io.StringIO()):
+            self.assertEqual(portable_library(), paths[0])
+        self.assertEqual(self.noted(), 2)
+
+    def test_the_compiler_that_is_first_in_the_path(self) -> None:
+        folder = self.folder / "compilers"
+        given = {"CC": "", "PATH": f"{folder}{os.pathsep}/usr/bin{os.pathsep}/bin"}
+        here = partial(shutil.which, path=str(folder))
+        with mock.patch.dict(os.environ, given), mock.patch("shutil.which", here):
+            for name in ("clang", "gcc", "cc"):
+                self.compiler(f"compilers/{name}")
+                self.assertEqual(portable._compiler(), [name])
+
     def test_two_runs_at_once(self) -> None:
         begun = self.folder / "begun"
         os.environ["CC"] = self.compiler("slow", f"echo 1 > {begun}; sleep 4", "echo ran")
@@ -290,6 +321,14 @@ class Lacking(Cache):
                 if self.cache.exists():
                     self.assertEqual(self.left(), [])
 
+    def test_a_user_without_a_home_folder(self) -> None:
+        told = "^there is no home folder; .* can be written by XDG_CACHE_HOME$"
+        with mock.patch.dict(os.environ, XDG_CACHE_HOME=""), mock.patch.object(
+            Path, "home", side_effect=RuntimeError("no home")
+        ):
+            hold_refused(self, portable_program, ((told,),))
+        self.assertEqual(self.noted(), 0)
+
     def test_a_cache_that_is_no_whole_path_is_none(self) -> None:
         with mock.patch.dict(os.environ, XDG_CACHE_HOME="cache", HOME=str(self.folder / "home")):
             self.assertEqual(
@@ -330,3 +369,22 @@ class Found(Cache):
                     "there is no program vga, and portable/ has no sources of it",
                     refused(found_program),
                 )
+
+    def test_wherever_it_is_found_it_is_not_written(self) -> None:
+        names = ("named", "built", "released", "path")
+        paths = {name: self.program(f"{name}/vga", "#!/bin/sh\n") for name in names}
+        none = self.folder / "none"
+        for name, path in paths.items():
+            built, released = (
+                Path(paths[one]) if name == one else none for one in ("built", "released")
+            )
+            given = paths["named"] if name == "named" else None
+            in_path = str(Path(paths["path"]).parent) if name == "path" else "/usr/bin"
+            with (
+                files_of_run() as own,
+                mock.patch.multiple(program, PROGRAM=built, RELEASED=released),
+                mock.patch.dict(os.environ, PATH=in_path),
+            ):
+                self.assertEqual(built_program(given), path)
+                told = f"{path}: it is read as {path}, so it isn't written"
+                self.assertEqual(refused(own.check_file, path), told)

@@ -42,6 +42,25 @@ class Reports(Folder):
                 # The first that is lacking is told.
                 ("pictures one p --step 9 --step 4 --step 5", (2, b"p/0005.png\n", lacking(4))),
                 ("pictures one p --step 9", (2, b"", lacking(9))),
+                (
+                    "pictures - p --step 2",
+                    b"1 ok\n",
+                    (
+                        2,
+                        b"",
+                        "vga-report: standard input: step 2 has no picture; there is 1 step\n",
+                    ),
+                ),
+                # A fault is no step.
+                (
+                    "pictures - p --step 1",
+                    b"F2 BadMagic\n",
+                    (
+                        2,
+                        b"",
+                        "vga-report: standard input: step 1 has no picture; there are 0 steps\n",
+                    ),
+                ),
                 # What stands behind the last of them is not read.
                 ("pictures - p --step 1", report(PICTURE) + b"2", (0, b"p/0001.png\n", "")),
                 (
@@ -57,6 +76,12 @@ class Reports(Folder):
         self.assertEqual((status, said), (0, ""))
         self.assertEqual(whole.count(b"fcTL"), 2)
         self.assertEqual(png_rows(whole)[:2], (6, 3))
+        # It has the shape of a still, and standard output is no folder.
+        self.assertEqual(self.done("pictures one --apng m.png --step 1 --scale 3 --aspect")[0], 0)
+        still = self.done("pictures one - --step 1 --scale 3 --aspect")[1]
+        sizes = [png_rows(data)[:2] for data in ((self.folder / "m.png").read_bytes(), still)]
+        self.assertEqual((sizes[0], sizes[0][1] > 3), (sizes[1], True))
+        self.assertFalse((self.folder / "-").exists())
         done = self.done("pictures one --apng m.png --step 5")
         self.assertEqual(done, (0, b"m.png: 1 frame, 0.014 seconds\n", ""))
 

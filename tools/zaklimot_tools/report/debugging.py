@@ -47,9 +47,8 @@ def link_to(path: str | Path, page: str) -> str:
 
     A page on standard output is taken for one in the current folder.
     """
-    folder = os.curdir if page == STANDARD else os.path.dirname(page) or os.curdir
     try:
-        return quote(Path(os.path.relpath(path, folder)).as_posix())
+        return quote(Path(os.path.relpath(path, os.path.dirname(page) or os.curdir)).as_posix())
     except ValueError:
         # On another drive.
         return Path(path).absolute().as_uri()

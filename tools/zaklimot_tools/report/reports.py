@@ -70,7 +70,8 @@ def wanted_pictures(
         if wanted and not missing:
             return
     if missing:
-        raise Trouble(f"step {min(missing)} has no picture; there are {last} steps", name)
+        there = f"there {'is' if last == 1 else 'are'} {counted(last, 'step')}"
+        raise Trouble(f"step {min(missing)} has no picture; {there}", name)
 
 
 class _Stills:
