@@ -5,7 +5,7 @@ import unittest
 from typing import Iterable, Optional
 
 from zaklimot.format import Answer, Picture
-from zaklimot_tools.report.expecting import differing
+from zaklimot_tools.report.expecting import differing, what_differs
 from zaklimot_tools.report.report import Comparison, Expected, Report
 
 from .tools import BLACK, RED, WHITE, hold, ppm, refused, report, stream
@@ -98,6 +98,36 @@ class Reports(unittest.TestCase):
         short, long = (iter(steps_of(report(*answers))) for answers in (("ok",), ("ok",) * 3))
         self.assertEqual([found.number for found in Comparison().differences(short, long)], [2])
 
+    def test_what_is_counted(self) -> None:
+        def counts(one: bytes, other: bytes, **given: bool) -> tuple[int, int, int, int]:
+            comparison = Comparison(**given)
+            list(comparison.differences(iter(steps_of(one)), iter(steps_of(other))))
+            return comparison.steps, comparison.skipped, comparison.answers, comparison.differing
+
+        refusal = "E1 NotDecoded"
+        bus, machine = {"has_refusals": False}, {"has_refusals": False, "is_machine": True}
+        rows: Iterable[tuple[Iterable[str], Iterable[str], dict[str, bool], tuple[int, ...]]] = (
+            # Answers are those that are expected, but for `ok`.
+            (("55", "ok"), ("ok", "55"), {}, (2, 0, 1, 2)),
+            # The end of the shorter report differs too.
+            (("ok",), ("ok", "55", "55"), {}, (1, 0, 0, 1)),
+            (("ok", "55", "55"), ("ok",), {}, (1, 0, 0, 1)),
+            # A refusal that is answered as it is expected is compared.
+            ((refusal, "FF"), (refusal, refusal), {}, (2, 0, 2, 1)),
+            ((refusal, "FF"), (refusal, refusal), bus, (2, 1, 1, 0)),
+            # A machine goes on from a state of its own.
+            (("55", "FF", "00"), ("55", refusal, "01"), machine, (3, 2, 1, 0)),
+            (("55",), ("55", refusal, "01"), machine, (3, 2, 1, 0)),
+            (("54",), ("55", refusal, "01"), machine, (3, 2, 1, 1)),
+        )
+        for one, other, given, wanted in rows:
+            with self.subTest(one=one, other=other, **given):
+                self.assertEqual(counts(report(*one), report(*other), **given), wanted)
+        comparison = Comparison()
+        steps = (iter(steps_of(report(*answers))) for answers in (("skipped",), ("55",)))
+        self.assertEqual(list(comparison.differences(*steps)), [])
+        self.assertEqual(comparison.text(), "1 step, 0 pictures, 1 skipped")
+
     def test_as_expected_and_otherwise(self) -> None:
         digest = hashlib.md5(PICTURE).hexdigest()
         other = 32 * "0"
@@ -107,6 +137,7 @@ class Reports(unittest.TestCase):
             [
                 ((), "", None),
                 (("ok",) * 12, "1-12 ok\n", None),
+                (("ok", "55", "ok"), "1-1 ok\n2 55\n3-3 ok\n", None),
                 (("ok", "ok", "55", "ok"), "1-2 ok\n3 55\n4 ok\n", None),
                 ((DUMP, "ok", "ok"), "1 misc 00\nseq 00: 00\n2-3 ok\n", None),
                 ((PICTURE, "ok"), f"1 picture 28 3x2 {digest}\n2 ok\n", None),
@@ -211,6 +242,36 @@ class Differing(unittest.TestCase):
                 ),
                 ("bda mode 03 rows 19", "bda mode 03 rows 18", ["bda rows: 19, not 18"]),
                 ("seq 00: 00", "seq 00: 00 00", ["'seq 00: 00', not 'seq 00: 00 00'"]),
+            ),
+        )
+
+    def test_what_of_an_answer_differs(self) -> None:
+        refused, latches = Answer(1, 1, "E1 NotDecoded"), Answer(1, 1, "latches 00 55 00 00")
+        dump = Answer(1, 1, "misc 00", ("seq 00: 00",))
+        sums = "2 lines " + 32 * "0"
+        byte = "{} is a byte that is read here; the refusal is written E1 NotDecoded".format
+        alike = "the lines below it agree, and its digest is that of others"
+        hold(
+            self,
+            what_differs,
+            (
+                # A number alone is a byte, where one is read.
+                (refused, "E1", "in", (), [byte("E1")]),
+                (refused, "ea", "getw", (), [byte("ea")]),
+                (refused, "E1", "out", (), []),
+                (refused, "E0", "in", (), []),
+                (refused, "E10", "in", (), []),
+                (refused, "E2 NotInProfile", "in", (), []),
+                # Dumps of one kind that are told whole.
+                (latches, "latches 00 54 00 00", "show", (), ["latch of plane 1: 55, not 54"]),
+                (latches, "latches 00 54...", "show", (), []),
+                (latches, "beam frame 0 line 1", "show", (), []),
+                (latches, "latches 00 54 00 00", "get", (), []),
+                # Lines that stand below.
+                (dump, sums, "show", ("misc 01", "seq 00: 00"), ["misc: 00, not 01"]),
+                (dump, sums, "show", ("misc 00", "seq 00: 00"), [alike]),
+                (dump, sums, "show", (), []),
+                (dump, "misc 01", "show", (), []),
             ),
         )
 

@@ -91,6 +91,52 @@ class Registry(Folder):
                 self.taken(pictures=PictureFolder(folder), json=Output(f"{folder}/{name}")), ""
             )
 
+    def test_a_picture_of_a_folder_that_is_named_otherwise(self) -> None:
+        folder = self.folder / "d"
+        folder.mkdir()
+        (self.folder / "linked").symlink_to(folder)
+        (self.folder / "named.png").symlink_to(folder / "0001.png")
+        for given, name in (
+            ("linked", "d/0001.png"),
+            ("d", "linked/0001.ppm"),
+            ("d", "named.png"),
+            ("d/../d/", "d/0001.png"),
+        ):
+            pictures, path = PictureFolder(self.folder / given), str(self.folder / name)
+            told = f"{path}: a picture of {pictures} would have this name"
+            self.assertEqual(self.taken(pictures=pictures, json=Output(path)), told)
+        for given, name in (("d", "0001.png"), ("d", "d/0001.png.json"), ("-", "d/0001.png")):
+            pictures = PictureFolder(given if given == "-" else self.folder / given)
+            path = str(self.folder / name)
+            self.assertEqual(self.taken(pictures=pictures, json=Output(path)), "")
+
+    def test_folders_that_are_not_there_or_are_links_to_nothing(self) -> None:
+        os.chdir(self.folder)
+        self.addCleanup(os.chdir, "/")
+        (self.folder / "gone").symlink_to("nowhere")
+        self.write("file", "")
+        rows: tuple[tuple[dict[str, object], str], ...] = (
+            ({"pictures": PictureFolder("new/er/est")}, ""),
+            ({"pictures": PictureFolder("-")}, ""),
+            ({"pictures": PictureFolder("")}, "the name of a file is empty"),
+            ({"pictures": PictureFolder("file")}, "file: it is not a folder"),
+            (
+                {"pictures": PictureFolder("file/new")},
+                f"{self.folder.resolve()}/file: it is not a folder",
+            ),
+            ({"pictures": PictureFolder("gone")}, "gone: it is not a folder"),
+            ({"json": Output("")}, "the name of a file is empty"),
+            ({"json": Output("new/o")}, "new: there is no such folder"),
+            ({"json": Output("gone")}, ""),
+            ({"report": OutputOrFolder(".")}, ""),
+            ({"report": OutputOrFolder("new/o")}, "new: there is no such folder"),
+            ({"json": Output("/dev/null"), "junit": Output("/dev/null")}, ""),
+            ({"json": Output("o"), "junit": Output("p"), "html": Output("./o")}, f"./o: {BOTH}"),
+        )
+        for words, told in rows:
+            with self.subTest(words):
+                self.assertEqual(self.taken(**words), told.strip())
+
     def test_what_keeps_an_output_from_being_written_is_told_before_any_work(self) -> None:
         (self.folder / "d").mkdir()
         path = self.write("locked", "kept")
@@ -207,6 +253,13 @@ class Tools(Fake):
         for words in ways:
             done = run_tool("vga-report", *words, prepare=lambda: os.chdir(self.folder))
             self.assertEqual((done[0], (self.folder / "a").exists()), (2, False), words)
+        # A run that has begun, but has come to no picture.
+        self.write("s.vga", "get 0\nframe\nget 0\n")
+        for lines in (1, 6):
+            self.program("short", f'#!/bin/sh\n{self.vga} "$@" | head -n {lines}\n')
+            words = ("run", "s.vga", "--pictures", "a/b", "--vga", "./short")
+            done = run_tool("vga-report", *words, prepare=lambda: os.chdir(self.folder))
+            self.assertEqual((done[0], (self.folder / "a").exists()), (2, lines > 1))
 
     def test_a_folder_or_a_file_in_the_place_of_the_program(self) -> None:
         path, plain = self.write("t.vga", "frame\n"), self.write("plain", "")

@@ -3,6 +3,7 @@ stand elsewhere; and the program that tools run."""
 
 from __future__ import annotations
 
+import json
 import os
 import shlex
 import sys
@@ -14,7 +15,7 @@ from unittest import mock
 from zaklimot_tools.script import launching, program
 from zaklimot_tools.script.program import BuiltProgram, built_program
 
-from .tools import TOOLS, Folder, patched, refused, run_tool
+from .tools import TOOLS, Folder, hold, patched, refused, run_tool
 
 ADAPTER = shlex.join([sys.executable, str(TOOLS / "tests" / "adapter.py")])
 CALLED = "1 ax=0003 bx=0000 cx=0000 dx=0000\n"
@@ -64,6 +65,74 @@ class Harnesses(Folder):
             status, output, _ = self.done("suite", command, *words)
             self.assertEqual(status, 2)
             self.assertIn(told, output)
+        # What it said stands behind that.
+        command = command.replace("head", "echo oh >&2; head")
+        output = self.done("suite", command, *words)[1]
+        self.assertIn("one: the command wrote more than 1 MiB: oh\n", output)
+
+    def said(self, does: str) -> list[str]:
+        """The lines below the rule of a case that the shell answers so, and the last line."""
+        words = ("suite", f"sh -c '{does}' {{name}}", "--list", "list.txt", "--only", "one")
+        return [line.strip() for line in self.done(*words)[1].splitlines()[2:]]
+
+    def test_what_a_command_says_beside_its_status(self) -> None:
+        failed, agrees = "1 case: 1 failed", "1 case: 1 agree"
+        self.write("one.txt", "F7 BadLine(2)\n")
+        many = [f"{number}" for number in range(1, 22)]
+        ended = "one: the command ended with status 3"
+        fault = 'echo "sh: F7 BadLine(2)" >&2'
+        hold(
+            self,
+            self.said,
+            (
+                ("exit 3", [ended, failed]),
+                ("echo oh >&2; exit 3", [f"{ended}: oh", failed]),
+                ("seq 20 >&2; exit 3", [f"{ended}, and said", *many[:20], failed]),
+                (
+                    "seq 21 >&2; exit 3",
+                    [f"{ended}, and said", *many[:10], ".. 1 line ..", *many[11:], failed],
+                ),
+                # A fault is the last line, and the status is another than 0.
+                (f"echo so far >&2; {fault}; exit 3", [agrees]),
+                (
+                    f"{fault}; echo so far >&2; exit 3",
+                    [f"{ended}, and said", "sh: F7 BadLine(2)", "so far", failed],
+                ),
+                (fault, ["one: the run: the end, not F7 BadLine(2)", "1 case: 1 differ"]),
+            ),
+        )
+
+    def test_a_rule_has_the_worst_answer_of_its_cases(self) -> None:
+        for name, expected in (("a/b/one", "1 00\n"), ("a/b/two", "1 FF\n"), ("a/c", "1 FF\n")):
+            self.write(f"{name}.vga", "; Rule.\nget 0\n")
+            self.write(f"{name}.txt", expected)
+        self.write("list.txt", "a/b/one\na/b/two\na/c\n")
+        words = ("suite", f"{ADAPTER} {{script}}", "--list", "list.txt")
+        table = (
+            "a/b (2 cases: 1 agree, 1 differ)\n  differs  Rule.\n"
+            "           a/b/one: step 1: FF, not 00 (`get 0`, a/b/one.vga:2)\n"
+            "a (1 case: 1 agree)\n  agrees   Rule.\n3 cases: 2 agree, 1 differ\n"
+        )
+        self.assertEqual(self.done(*words), (1, table, ""))
+        told = json.loads(self.done(*words, "--json")[1])
+        rules = [(rule["folder"], rule["answer"], len(rule["cases"])) for rule in told["rules"]]
+        self.assertEqual(rules, [("a/b", "differs", 2), ("a", "agrees", 1)])
+        # One that agrees has no reason, and no step that differs.
+        agreeing = {"name": "a/c", "rule": "Rule.", "answer": "agrees"}
+        counts = {"steps": 1, "skipped": 0, "answers": 1, "differing": 0}
+        self.assertEqual(told["rules"][1]["cases"], [{**agreeing, **counts}])
+
+    def test_an_expected_report_that_is_damaged(self) -> None:
+        self.write("two.txt", "1 FF\n3 ok\n")
+        done = self.done("suite", f"{ADAPTER} {{script}}", "--list", "list.txt")
+        told = f"{self.folder}/two.txt:2: step 2 is to come, and not '3 ok'"
+        self.assertEqual(done, (2, "", f"vga-report: {told}\n"))
+
+    def test_a_command_that_stops_before_the_first_step(self) -> None:
+        self.write("one.txt", "")
+        self.write("list.txt", "one until 0\n")
+        words = ("suite", f"{ADAPTER} {{script}} font {{until}}", "--list", "list.txt")
+        self.assertEqual(self.done(*words)[0], 0)
 
     def test_a_list_from_standard_input(self) -> None:
         # Its names are those of the current folder.

@@ -123,6 +123,20 @@ class Options(Folder):
                     self.assertEqual(self.done(words), (2, b"", f"vga-report: {told}\n"))
                     self.assertEqual(self.names(), before)
 
+    def test_where_a_page_opens_a_script(self) -> None:
+        # Before the first step, too, and by an address that a browser takes.
+        for name, until, behind in (
+            ("o.html", (), "o.html"),
+            ("o p#.html", ("--until", "0"), "o%20p%23.html#step=0"),
+            ("\u00e9.html", ("--until", "12"), "%C3%A9.html#step=12"),
+        ):
+            words = ("run", "s.vga", "--debug", name, *until)
+            done = run_tool("vga-report", *words, prepare=partial(os.chdir, self.folder))
+            address = f"{self.folder.resolve().as_uri()}/{behind}"
+            told = f"{name}: open it in a browser, for instance as {address}\n"
+            self.assertEqual(done, (0, told.encode(), ""))
+            self.assertTrue((self.folder / name).exists())
+
     def test_those_that_only_look_so_do_their_work(self) -> None:
         for words, status in TOGETHER:
             with self.subTest(words):

@@ -4,6 +4,7 @@ what two outputs have."""
 from __future__ import annotations
 
 import os
+import re
 from functools import partial
 from unittest import mock
 
@@ -97,6 +98,62 @@ class Reports(Folder):
         self.report("later", "56", OTHER)
         self.assertEqual(self.done("compare late later --picture late.png")[0], 1)
         self.assertEqual(png_rows((self.folder / "late.png").read_bytes())[2], [DARK + MARK])
+
+    def test_the_shape_and_the_size_of_a_marked_picture(self) -> None:
+        # It has the shape of a still.
+        words = "--scale 3 --aspect"
+        self.assertEqual(self.done(f"pictures one p --step 3 {words}")[0], 0)
+        wanted = png_rows((self.folder / "p/0003.png").read_bytes())[:2]
+        self.assertGreater(wanted[1], 3)
+        (self.folder / "image").write_bytes(OTHER)
+        for compared in ("compare one two", "compare-picture one 3 image"):
+            self.assertEqual(self.done(f"{compared} --picture m.png {words}")[0], 1)
+            made = png_rows((self.folder / "m.png").read_bytes())[:2]
+            self.assertEqual(made, wanted, compared)
+        # Of two sizes it has the dots of both, and those that one picture lacks differ.
+        self.report("three", ppm(3, 1, BLACK * 3))
+        for names in ("one three", "three one"):
+            self.assertEqual(self.done(f"compare {names} --picture m.png")[0], 1)
+            rows = png_rows((self.folder / "m.png").read_bytes())
+            self.assertEqual(rows, (3, 1, [MARK + BLACK + MARK]))
+
+    def test_lines_are_not_steps(self) -> None:
+        # Behind a dump of two lines, in the first report alone.
+        self.report("dump", "a\nb", "55", "ok", "E1 NotDecoded")
+        self.report("plain", "a", "56", "ok", "E1 NotInProfile")
+        status, output, said = self.done("compare dump plain --all")
+        self.assertEqual((status, said), (1, ""))
+        lines = output.decode().splitlines()
+        self.assertEqual(lines[3:6], ["step 2 differs", "  dump:3: 55", "  plain:2: 56"])
+        self.assertEqual(lines[-2:], ["  dump:5: E1 NotDecoded", "  plain:4: E1 NotInProfile"])
+        done = self.done("compare dump - --expected", b"1 a\nb\n2 56\n")
+        self.assertEqual(done, (1, b"dump:3: step 2: 55, not 56 (standard input:3)\n", ""))
+        self.report("sums", "a\nb", f"picture 16 2x1 {32 * '0'}")
+        status, _, said = self.done("pictures sums p")
+        told = "sums:3: the picture is shown by its digest, and its dots are not in the file"
+        self.assertEqual((status, said), (2, f"vga-report: {told}\n"))
+
+    def test_a_damaged_report_is_compared_up_to_the_damage(self) -> None:
+        self.write("bad", report("ok", "55") + b"3 ok\nmore\n")
+        self.write("other", report("ok", "56", "ok", "ok"))
+        differs = b"step 2 differs\n  bad:2: 55\n  other:2: 56\n"
+        told = "vga-report: bad:4: step 4 is to come, and not 'more'\n"
+        for words in ("--all", "--all --html o", "--all --picture o"):
+            self.assertEqual(self.done(f"compare bad other {words}"), (2, differs, told))
+            self.assertFalse((self.folder / "o").exists())
+        # What stands behind the first step that differs isn't looked at without --all.
+        self.assertEqual(self.done("compare bad other"), (1, differs, ""))
+
+    def test_the_columns_of_a_page_are_those_of_the_words(self) -> None:
+        self.assertEqual(self.done("compare one two --html page.html")[0], 1)
+        text = (self.folder / "page.html").read_text("utf-8")
+        self.assertEqual(
+            re.findall("<th>(.*?)</th>", text), ["step", "one", "two", "dots that differ"]
+        )
+        captions = re.findall("<figcaption>(.*?)</figcaption>", text)
+        self.assertEqual(captions, ["one", "two", "where they differ"])
+        cells = re.findall(r'<tr><td class="number">4</td><td>(.*?)</td><td>(.*?)</td>', text)
+        self.assertEqual(cells, [("55", "56")])
 
     def test_a_page_of_steps_that_differ(self) -> None:
         for words, status, told, said in (

@@ -143,6 +143,66 @@ class Together(Fake):
         steps = [f"     {at}      {at}  out 3C2 1           ok\n" for at in (1, 2)]
         self.assertEqual(told[1:], ["cleared", steps[0], "cleared", steps[1]])
 
+    def test_which_steps_only_shows(self) -> None:
+        hold(
+            self,
+            lambda kinds, words, *answer: chosen(kinds)(Row(Answer(7, 9, *answer), words)),
+            (
+                # By the numbers of steps, both ends among them.
+                *(
+                    (kinds, "out 3C2 1", "ok", is_shown)
+                    for kinds, is_shown in (
+                        ("7", True),
+                        ("9", False),
+                        ("6-7", True),
+                        ("7-8", True),
+                        ("1-6,8-9", False),
+                        ("8,refused,007", True),
+                    )
+                ),
+                ("refused", "show cells", "E3 NoMode", True),
+                ("refused", "in 3DA", "E1", False),
+                ("dumps", "SHOW latches", "latches 00 55 00 00", True),
+                ("dumps", "show cells", "E3 NoMode", False),
+                ("dumps", "get 0", "55", False),
+                ("read", "inw 3DA", "1E41", True),
+                ("read", "in 3DA", "E1 NotDecoded", False),
+                ("pictures", "frame", "picture 37", (), DOTS, True),
+                ("pictures", "frame", "E3 NoMode", False),
+                ("pictures,differs", "get 0", "55", False),
+            ),
+        )
+
+    def test_a_dump_that_stands_below_is_met_or_any_will_do(self) -> None:
+        def is_wrong(expected: str, *dump: str) -> bool:
+            return Row(Answer(1, 1, "a", ("b",)), "show regs", 1, expected, dump).is_wrong
+
+        whole = f"2 lines {LINES_DIGEST}"
+        hold(
+            self,
+            is_wrong,
+            (
+                (whole, "a", "b", False),
+                (whole, "a", "c", True),
+                (whole, "a", True),
+                ("2 lines...", "a", "c", True),
+                ("*", "a", "c", False),
+                ("2 lines " + 32 * "0", "a", "b", True),
+            ),
+        )
+
+    def test_a_dump_that_differs_is_told_behind_its_last_line(self) -> None:
+        lines = self.run_text("show regs ; = 3 lines\n")[1].splitlines()
+        column = len("     1      1  SHOW REGS           ")
+        self.assertEqual(
+            lines[1:3], ["     1      1  SHOW REGS           a", f"{'':{column}}b   not 3 lines"]
+        )
+
+    def test_answers_that_differ_are_told_in_their_order(self) -> None:
+        text = "get 0 ; = 55\n" * 11
+        told = [line.split(":")[1] for line in self.run_text(text, "--quiet")[1].splitlines()]
+        self.assertEqual(told[:11], [f"{number}" for number in range(1, 12)])
+
     def test_what_only_can_not_mean(self) -> None:
         hold_refused(
             self,
@@ -189,6 +249,17 @@ class Stopped(Fake):
             self.assertIn(f"show regs           {misc}\n", told.decode())
             self.assertTrue(told.decode().endswith(f"\n{steps} steps, 0 pictures\n"), told)
 
+    def test_scripts_without_a_step(self) -> None:
+        want_program()
+        for name, data in (("t.vga", b"; nothing\n"), ("empty.vga", b""), ("t.bin", b"VGAS\x01")):
+            words = ("run", self.write(name, data), "--vga", PROGRAM, "--pictures", "none")
+            done = run_tool("vga-report", *words, prepare=lambda: os.chdir(self.folder))
+            self.assertEqual(done, (0, b"0 steps, 0 pictures\n", ""), name)
+        # The state of bytes is as that of a text.
+        told = run_tool("vga-report", *words[:4], "--until", "3")[1].decode().splitlines()
+        self.assertEqual([line.split()[:3] for line in told[1:2]], [["1", "show", "regs"]])
+        self.assertEqual(told[-1], "4 steps, 0 pictures")
+
 
 class Written(Fake):
     """Answers that are written into a script."""
@@ -198,6 +269,12 @@ class Written(Fake):
         status, output, said = self.run_text(text, "--bless")
         self.assertEqual((status, said), (0, ""))
         return output, (self.folder / "t.vga").read_text()
+
+    def test_a_script_of_which_nothing_changes_stays_the_file_that_it_is(self) -> None:
+        path = self.write("t.vga", "get 0 ; = E6\nout 3C2 1\n")
+        before = os.stat(path).st_ino
+        self.assertEqual(self.run_script("--bless", path=path)[1], f"{path}: 0 answers written\n")
+        self.assertEqual(os.stat(path).st_ino, before)
 
     def test_columns_and_comments_stay(self) -> None:
         one = "t.vga:1: nothing -> E6\nt.vga: 1 answer written\n"
@@ -275,6 +352,14 @@ class Machines(Fake):
         ]
         self.assertEqual(dumps, wanted)
 
+    def test_scripts_of_a_folder_tell_what_each_tells_alone(self) -> None:
+        self.write("tests/t.vga", JSON_TEXT)
+        alone = self.run_script("--json", "-", path="tests/t.vga")[1]
+        both = self.run_script("--json", "-", path="tests")[1]
+        self.assertEqual(json.loads(both), [json.loads(alone)])
+        self.assertTrue(alone.endswith("}\n") and both.endswith("]\n"))
+        self.assertIn(WHY, both)
+
     def suite(self, path: str) -> ElementTree.Element:
         """The XML of a run of a folder or a script."""
         self.run_script("--junit", "junit.xml", path=path)
@@ -294,6 +379,20 @@ class Machines(Fake):
             self.assertRegex(one.get("time") or "", r"^\d+\.\d{3}$")
         (case,) = self.suite("tests/b.vga")
         self.assertEqual((case.get("classname"), case.get("name")), (names[2], names[2]))
+
+    def test_times_and_reasons_in_the_xml(self) -> None:
+        for name, text in (("a\x1b[1m", "get 0\n"), ("b", "move\n"), ("c", "get 0 ; = 5\n")):
+            self.write(f"tests/{name}.vga", text)
+        suite = self.suite("tests")
+        self.assertEqual(suite[0].get("name"), "tests/a?[1m.vga")
+        times = [float(one.get("time") or "") for one in (suite, *suite)]
+        self.assertAlmostEqual(times[0], sum(times[1:]), delta=0.003)
+        # What keeps a script from being run, and not what it has written until then.
+        self.assertRegex(
+            suite[1][0].get("message") or "", "^vga-report: tests/b.vga:1: F7 BadLine.1.: there is"
+        )
+        told = "tests/c.vga:1: step 1: GET 0 answers E6, not 5"
+        self.assertEqual(suite[2][0].get("message"), told)
 
     def test_what_xml_does_not_take_is_no_part_of_it(self) -> None:
         path = self.write("bad.vga", "get 0 ; = \x1b[2J<\ufffe\n")

@@ -281,7 +281,7 @@ def _said_text(messages: Path) -> str:
     if len(lines) > 2 * SHOWN_LINES:
         lines = [
             *lines[:SHOWN_LINES],
-            f".. {len(lines) - 2 * SHOWN_LINES} lines ..",
+            f".. {counted(len(lines) - 2 * SHOWN_LINES, 'line')} ..",
             *lines[-SHOWN_LINES:],
         ]
     if len(lines) < 2:
