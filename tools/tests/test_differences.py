@@ -108,7 +108,8 @@ class Reports(unittest.TestCase):
         bus, machine = {"has_refusals": False}, {"has_refusals": False, "is_machine": True}
         rows: Iterable[tuple[Iterable[str], Iterable[str], dict[str, bool], tuple[int, ...]]] = (
             # Answers are those that are expected, but for `ok`.
-            (("55", "ok"), ("ok", "55"), {}, (2, 0, 1, 2)),
+            (("55", "55"), ("ok", "55"), {}, (2, 0, 1, 1)),
+            (("ok", "ok"), ("54", "55"), {}, (2, 0, 2, 2)),
             # The end of the shorter report differs too.
             (("ok",), ("ok", "55", "55"), {}, (1, 0, 0, 1)),
             (("ok", "55", "55"), ("ok",), {}, (1, 0, 0, 1)),

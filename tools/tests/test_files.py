@@ -22,7 +22,7 @@ from zaklimot_tools.core.files import (
     files,
     files_of_run,
 )
-from zaklimot_tools.core.streams import write_over, writing
+from zaklimot_tools.core.streams import empty_folder, write_over, writing
 
 from .running import Fake
 from .tools import PYTHON, TOOLS, Folder, begin, ended, hold_undone, ppm, refused, run_tool
@@ -136,6 +136,16 @@ class Registry(Folder):
         for words, told in rows:
             with self.subTest(words):
                 self.assertEqual(self.taken(**words), told.strip())
+
+    def test_a_folder_for_files_is_new_or_empty(self) -> None:
+        (self.folder / "full" / "folder").mkdir(parents=True)
+        self.write("hidden/.file", "")
+        told = "the folder has files, and none of them is to be lost: give one that is new or empty"
+        for name in ("full", "hidden"):
+            path = str(self.folder / name)
+            self.assertEqual(refused(empty_folder, path), f"{path}: {told}")
+        for name in ("new/er", "new/er", "full/folder"):
+            self.assertEqual(empty_folder(str(self.folder / name)), self.folder / name)
 
     def test_what_keeps_an_output_from_being_written_is_told_before_any_work(self) -> None:
         (self.folder / "d").mkdir()

@@ -86,7 +86,15 @@ SPEEDS: list[tuple[str, Optional[tuple[int, int]]]] = [
         ),
         TEXT,
     ),
+    # Two clocks of four are there.
     ("int ax=3;out 3C2 6F", None),
+    ("int ax=3;out 3C2 6B", None),
+    # The same at the ports of monochrome.
+    ("out 3C2 62;outw 3C4 0101;outw 3B4 5F00;outw 3B4 BF06;outw 3B4 1F07", WIDE),
+    ("out 3C2 62;outw 3C4 0101;outw 3B4 5F00;outw 3B4 BF06;out 3B4 7;out 3B5 1F", WIDE),
+    ("out 3C2 62;outw 3C4 0101;outw 3D4 5F00;outw 3D4 BF06;outw 3D4 1F07", None),
+    # What is written to a protected register tells nothing.
+    ("out 3C2 63;outw 3D4 8011;outw 3D4 5F00;outw 3D4 BF06;outw 3D4 1F07", None),
     # A mode set protects registers 0 to 7; without that, each leaves the others'
     # parts of the shape as they are.
     ("int ax=3;outw 3D4 0F07;outw 3D4 0000", TEXT),

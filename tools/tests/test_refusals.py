@@ -91,6 +91,32 @@ class Refusals(unittest.TestCase):
         ]
         self.assertEqual([bool(one) for one in told], [True, False, False])
 
+    def test_what_a_step_means_by_its_bits(self) -> None:
+        shift = "Bit 5 of graphics mode, shift register mode, is left out of the adapter"
+        count = "Bit 5 of underline location, count by four, is left out of the adapter"
+        ends = "The index of the {} is {}, and its registers end at {}.".format
+        rows: tuple[tuple[str, str, int, str], ...] = (
+            # An index has fewer bits than a byte.
+            ("", "outw 3CE 2015", 2, f"{shift}, so it can't be 1."),
+            ("", "outw 3CE 0019", 2, ends("graphics controller", "09", 8)),
+            ("", "outw 3C4 010D", 2, ends("sequencer", "05", 4)),
+            ("", "outw 3B4 2034", 2, f"{count}, so it can't be 1."),
+            ("", "OUTW 3b4 0099", 2, ends("CRT controller", "19", "18")),
+            # Bit 7 of a mode asks to keep the memory, and is no part of its number.
+            ("", "int ax=0084", 5, "04"),
+            ("int ax=0087", "int ax=0C01", 6, "Mode 07 is text, and this wants graphics."),
+            ("INT AX=0092", "int ax=1112", 6, "Mode 12 "),
+            ("int ax=0007", "int ax=0509", 7, "Mode 07 has no page 09."),
+        )
+        for before, words, number, told in rows:
+            with self.subTest(words):
+                why = why_refused(words, number, state_behind(before.splitlines()))
+                self.assertTrue(why == told if told.endswith(".") else told in why, why)
+        ran = run_texts({words: f"{before}\n{words}\n".encode() for before, words, *_ in rows})
+        for before, words, number, _ in rows:
+            answer = ran[words].report.decode("ascii").splitlines()[-1].split()[1]
+            self.assertEqual(answer, f"E{number}", words)
+
     def test_the_program_refuses_each(self) -> None:
         ran = run_texts({case["text"]: case["text"].encode() + b"\n" for case in CASES})
         for case in CASES:
