@@ -17,6 +17,7 @@ from typing import Callable, Optional
 from unittest import mock
 
 from zaklimot.format import MOST_BYTES, Picture, count_in, decimal, parse_text, steps_in
+from zaklimot_tools.core.files import files_of_run
 from zaklimot_tools.core.streams import bytes_of, read_at_most
 from zaklimot_tools.core.trouble import Trouble
 from zaklimot_tools.core.words import number_to, seconds
@@ -172,6 +173,12 @@ class Wholes(Folder):
             self.assertEqual(read(str(most), 5), b"12345")
             self.assertEqual(refused(read, str(more), 5), f"{more}: it has more than 5 bytes")
         self.assertEqual(refused(read_at_most, str(more), 5, "F6"), f"{more}: F6")
+        # Of standard input too.
+        with files_of_run(), open(more) as given, mock.patch("sys.stdin", given):
+            told = refused(read_at_most, "-", 5)
+        self.assertEqual(told, "standard input: it has more than 5 bytes")
+        with files_of_run(), open(most) as given, mock.patch("sys.stdin", given):
+            self.assertEqual(read_at_most("-", 5), b"12345")
 
     def test_a_script_of_the_most_bytes(self) -> None:
         path = Path(self.write("s.vga", b""))

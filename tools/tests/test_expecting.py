@@ -174,6 +174,21 @@ class Several(Fake):
         output = self.run_script("--until", "1", "--fonts", "f", path=str(self.tests))[1]
         self.assertEqual(output.count(": 5 steps, "), 2)
 
+    def test_what_is_told_of_a_script_alone_is_told_of_one_among_others(self) -> None:
+        # A text that is lost, and a refusal that isn't expected.
+        self.write("others/a.vga", b"VGAS\1\x0b")
+        self.write("others/b.vga", "in 60\n")
+        alone = [self.run_script("--quiet", path=f"others/{name}.vga") for name in "ab"]
+        self.assertIn("has written over the text\n", alone[0][2])
+        status, output, said = self.run_script(path="others")
+        told = "".join(one for _, one, _ in alone)
+        self.assertEqual((status, output), (0, f"{told}2 scripts, 0 differ\n"))
+        self.assertEqual(said, alone[0][2])
+        status, output, _ = self.run_script("--strict", path="others")
+        self.assertEqual(status, 1)
+        self.assertTrue(output.endswith("\n2 scripts, 1 differs\n"))
+        self.assertIn(" answers E1 NotDecoded, and no refusal is expected\n", output)
+
     def test_json_is_made_where_it_is_wanted_alone(self) -> None:
         # For each step it takes as long as all else.
         wrong = mock.patch("zaklimot_tools.report.listing._told", side_effect=MemoryError)

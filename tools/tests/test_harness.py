@@ -12,10 +12,17 @@ from functools import partial
 from pathlib import Path
 from unittest import mock
 
+from zaklimot_tools.core.processes import Streamed
 from zaklimot_tools.script import launching, program
-from zaklimot_tools.script.program import BuiltProgram, built_program
+from zaklimot_tools.script.program import (
+    BuiltProgram,
+    built_program,
+    check_ended,
+    check_program_runs,
+    fault_of,
+)
 
-from .tools import TOOLS, Folder, hold, patched, refused, run_tool
+from .tools import TOOLS, Folder, hold, patched, refused, run_tool, stream
 
 ADAPTER = shlex.join([sys.executable, str(TOOLS / "tests" / "adapter.py")])
 CALLED = "1 ax=0003 bx=0000 cx=0000 dx=0000\n"
@@ -192,6 +199,34 @@ class Programs(Folder):
             self.assertEqual(built_program("mine"), path)
             self.assertEqual(built_program(other), other)
             self.assertEqual(built_program("none"), "none")
+
+    def test_what_is_told_of_one_that_ends_badly(self) -> None:
+        def told(status: int, said: str) -> str:
+            run = Streamed(stream(b""), status, said)
+            return refused(check_ended, run, "vga") if status else fault_of(run)
+
+        hold(
+            self,
+            told,
+            (
+                (0, "", ""),
+                (0, " \n", ""),
+                (0, "so far\nthe end \n\n", "the end"),
+                (0, "vga: F7 BadLine(2)\nthe end\n", "F7 BadLine(2)"),
+                (1, "vga: F10 OutOfMemory\n", "vga: it ended with status 1: F10 OutOfMemory"),
+                (2, "usage\nno such word", "vga: it ended with status 2: no such word"),
+                (-9, "", "vga: it ended with status -9: "),
+            ),
+        )
+
+    def test_what_is_written_in_the_place_of_a_report_is_told_by_its_front(self) -> None:
+        for length in (59, 60, 61):
+            vga = self.program("vga", f"#!/bin/sh\nprintf %0{length}d 0; echo; echo 2\n")
+            told = f"{vga}: it runs no script with f: it writes '{'0' * min(length, 60)}'"
+            self.assertEqual(refused(check_program_runs, vga, "f"), told)
+        # It gets the font file that is named, and a script that the program takes.
+        vga = self.program("vga", '#!/bin/sh\n[ "$1 $3 $4" = "go --fonts f" ] && echo 1 00\n')
+        check_program_runs(vga, "f")
 
     def test_the_command_becomes_the_program(self) -> None:
         with patched(launching, {"found_program": lambda instead: "/bin/sh"}):

@@ -375,6 +375,16 @@ class Writing(Folder):
         (self.folder / "c").touch()
         self.assertEqual(os.stat(path + "b").st_mode, os.stat(self.folder / "c").st_mode)
 
+    def test_the_rights_of_files_are_those_that_the_user_wants(self) -> None:
+        before = os.umask(0o027)
+        try:
+            for name in "ab":
+                write_file(str(self.folder / name), b"new")
+        finally:
+            after = os.umask(before)
+        modes = [stat.S_IMODE(os.stat(self.folder / name).st_mode) for name in "ab"]
+        self.assertEqual((modes, after), ([0o640, 0o640], 0o027))
+
     def test_a_device_is_written_as_it_is(self) -> None:
         write_file(os.devnull, b"new")
         self.assertFalse(stat.S_ISREG(os.stat(os.devnull).st_mode))
