@@ -70,6 +70,13 @@ class Registry(Folder):
             self.assertIn(BOTH.strip(), self.taken(json=Output("-"), junit=Output(path)))
             self.assertIn(BOTH.strip(), self.taken(json=Output(path), junit=Output("-")))
             self.assertEqual(self.taken(json=Output("-"), junit=Output(other)), "")
+        # Also where it is no file.
+        reader, writer = os.pipe()
+        os.close(reader)
+        with open(writer, "wb") as stream, mock.patch("sys.stdout", stream):
+            told = f"standard output: {BOTH.strip()}"
+            self.assertEqual(self.taken(json=Output("-"), junit=Output("-")), told)
+            self.assertEqual(self.taken(json=Output("-"), junit=Output(path)), "")
 
     def test_each_of_several_inputs(self) -> None:
         paths = [self.write(name, "") for name in "abc"]

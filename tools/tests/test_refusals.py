@@ -32,6 +32,43 @@ LINES = [
     (row["line"].replace(LONG, DIGITS), row["part"].replace(LONG, DIGITS), row["reason"])
     for row in TABLE["lines"]
 ]
+# Others, at the bounds of what is told: words that are cut, numbers of one digit too many, the last
+# byte of a plane.
+HEX, COMMENT = "numbers are hexadecimal digits alone: write ", "comments begin with ;"
+DOTS, GLUED = "DOTS is decimal digits alone: write ", "a blank stands between words: write "
+ALONE = "nothing stands after the name of a step but blanks: write "
+ONE_STEP, DIGITS_MOST = "a word too many: one step stands on a line", "and 2 digits are the most"
+BOUNDS: tuple[tuple[str, str, str], ...] = (
+    ("frame,", "frame,", f"{ALONE}frame"),
+    ("in: 3DA", "in:", f"{ALONE}in"),
+    ("outw3C4 0202", "outw3C4", f"{GLUED}outw 3C4"),
+    ("getwA0000", "getwA0000", f"{GLUED}getw A0000"),
+    ("in 3DA OUT", "OUT", ONE_STEP),
+    ("in 3DA Frame 1", "Frame", ONE_STEP),
+    ("note this", "note", COMMENT),
+    ("!x", "!x", COMMENT),
+    ("out 3C4 000", "000", f"VALUE has 3 digits, {DIGITS_MOST}: write 0"),
+    ("out 3C4 010", "010", f"VALUE has 3 digits, {DIGITS_MOST}: write 10"),
+    ("out 3C4 123", "123", f"VALUE has 3 digits, {DIGITS_MOST}"),
+    ("show plane 00 0 1", "00", "P has 2 digits, and 1 digit is the most: write 0"),
+    ("show plane 4 0 1", "4", "P is from 0 to 3"),
+    ("show plane 3 0 0", "0", "COUNT is from 1 to 256"),
+    ("show plane 3 0 257", "257", "COUNT is from 1 to 256"),
+    ("show plane 3 FFF0 17", "17", "from FFF0 on the plane has 16 bytes"),
+    ("out 0x3c4 02", "0x3c4", f"{HEX}3C4"),
+    ("out l0 1", "l0", f"{HEX}10"),
+    ("out 3C4 oO", "oO", f"{HEX}00"),
+    *((f"advance {text}", text, f"{DOTS}1000") for text in ("1'000", "1_000", "1,000", "1000.")),
+    ("repeat 0", "0", "N is from 1 to 65535"),
+    ("int ax=3 ax=4", "ax=4", "ax stands twice"),
+    ("int block 5", "5", "a block has two digits for each byte, and these are 1"),
+    (f"int block {'5' * 131_072}", "5" * 131_072, "a block has at most 65535 bytes"),
+    *(
+        (f"show {word}", word, f"nothing of the state has the name '{shown}'; there are ")
+        for word, shown in (("x" * 24, "x" * 24), ("x" * 25, "x" * 22 + ".."))
+    ),
+)
+GOOD = ("show plane 3 FF00 256", "show plane 3 FFFF 1", f"int block {'5' * 131_070}", "out 03C4 2")
 # Whole texts whose first line shows what is wrong with all of it, and what is said.
 TEXTS = [(bytes.fromhex(row["hex"]), row["reason"]) for row in TABLE["texts"]]
 
@@ -138,6 +175,22 @@ class Mistakes(unittest.TestCase):
         self.assertGreaterEqual(len(LINES), 60)
         hold(self, mistake_in, ((line, None) for line in TABLE["good"]))
 
+    def test_each_is_told_at_its_bounds(self) -> None:
+        for line, part, said in BOUNDS:
+            with self.subTest(line[:60]):
+                mistake = mistake_in(line)
+                assert mistake is not None
+                reason = mistake.reason[: len(said)] if said.endswith(" ") else mistake.reason
+                self.assertEqual(reason, said)
+                self.assertEqual(line[mistake.at : mistake.at + mistake.width], part)
+        hold(self, mistake_in, ((line, None) for line in GOOD))
+        ran = run_texts(
+            {line: line.encode() + b"\n" for line in (*GOOD, *(row[0] for row in BOUNDS))}
+        )
+        for line, done in ran.items():
+            said = "" if line in GOOD else "vga: F7 BadLine(1)\n"
+            self.assertEqual((done.status, done.said), (int(line not in GOOD), said), line[:60])
+
     def test_a_long_line_is_shown_around_the_mistake(self) -> None:
         # 100 characters of it, of which 50 stand before the mistake.
         line = "".join(f"{at:4} " for at in range(61))
@@ -194,6 +247,33 @@ FAULTS_TOLD = (
         "s:1",
         "numbers are hexadecimal digits alone: write 3C4\n   out 0x3C4 02\n       ^^^^^",
         b"\rout 0x3C4 02",
+    ),
+    # Of lines with both the newlines part them.
+    (
+        "F7 BadLine(1)",
+        "s:1",
+        "numbers are hexadecimal digits alone: write 3C4\n  out 0x3C4 02\n      ^^^^^",
+        b"out 0x3C4 02\r\nframe\r\n",
+    ),
+    (
+        "F7 BadLine(1)",
+        "s:1",
+        "the text is UTF-16, of two bytes a letter: save it as UTF-8 or ASCII",
+        b"\xfe\xff" + "frame\n".encode("utf-16-be"),
+    ),
+    # Another repeat has an end.
+    (
+        "F7 BadLine(5)",
+        "s:5",
+        "the repeat has no end\n  repeat 3",
+        b"version 2\nrepeat 2\nframe\nend\nrepeat 3\nframe\n",
+    ),
+    # A program need not name the place.
+    (
+        "F11 TooMany",
+        "s",
+        "with the repeat or step the script means more than 16,777,216 steps",
+        b"VGAS\2",
     ),
     *(
         (
@@ -262,6 +342,23 @@ class Faults(Folder):
                 for fault, name, reason, *files in FAULTS_TOLD
             ),
         )
+
+    def test_what_no_text_has_is_looked_for_at_the_front_and_told_of_the_first_line(self) -> None:
+        no_text = "this is not a script: it has bytes that no text has"
+        here = "the character U+0001 stands in no step"
+        for number, data, told in (
+            (1, b"move" + b" " * 195 + b"\1\n", no_text),
+            (1, b"move" + b" " * 196 + b"\1\n", here),
+            (2, b"frame\nmove \1\n", here),
+            # Some of them stand in texts, though in no step; other bytes are told as they are.
+            (1, b"frame \v\f\t\r\n", "the character U+000B "),
+            (1, b"frame \x7f\n", "the character U+007F "),
+            (1, b"frame \xc3\xa9\n", "the character U+00E9 "),
+            (1, b"frame \xe9\n", "the character byte E9 "),
+        ):
+            fault = f"F7 BadLine({number})"
+            front = f"{self.folder / 's'}:{number}: {fault}: {told}"
+            self.assertEqual(self.told(fault, data)[: len(front)], front)
 
     def test_files_that_cannot_be_read(self) -> None:
         script = self.folder / "s"
