@@ -12,11 +12,12 @@ import signal
 import unittest
 import zipfile
 from functools import partial
+from hashlib import sha256
 from pathlib import Path
 from unittest import mock
 
 from zaklimot_tools.report.debugging import PAGE
-from zaklimot_tools.trace import converting, inpage, replaying
+from zaklimot_tools.trace import converting, inpage, keeper, replaying
 from zaklimot_tools.trace.asked import SPEEDS, USUAL_SPEED, Deed
 
 from .tools import (
@@ -46,10 +47,22 @@ MANY = bytes.fromhex(
     "31FF BADA03 B92000 EC89F8ABE2FA B8410ECD10 B401CD16 74E9"
     "30E4CD16 B81300CD10 B800A08EC0 31FF BADA03 EC89F8AA BAC903EE BADA03 EBF3"
 )
+# A ROM that writes a port as it begins, and another one in each call of interrupt 10; and a program
+# that sets a mode.
+ROM = bytes.fromhex(
+    "55AA01 31C08ED8 C70640001A00 C706420000C0 BAC203B067EE CB BAC803B05AEE CF"
+).ljust(512, b"\0")
+SETTING = bytes.fromhex("B80D00CD10 B8004CCD21")
 # It writes a letter by DOS, and ends.
 ENDING = bytes.fromhex("B402B241CD21 B8004CCD21")
-
-
+# A run that the page has saved.
+SAVED = {
+    "is": "zaklimot run",
+    "version": 1,
+    "name": "x.com",
+    "software": {"program": "q5dhkGBgYGBgYGBgYPh/gQEA"},
+    "inputs": [[1000, "key", 0x1E, 0x1E61]],
+}
 # The files that a recording of two screens leaves.
 RECORDED = [
     "picture-1.png",
@@ -195,20 +208,41 @@ class Recorded(Folder):
         )
         self.assertEqual(self.record(both, "--start", "b.com")[0], 0)
         self.assertIn(" int 0E41 ", self.trace())
-        packed = "q5dhkGBgYGBgYGBgYPh/gQEA"
-        run_text = {
-            "is": "zaklimot run",
-            "version": 1,
-            "name": "x.com",
-            "software": {"program": packed},
-            "inputs": [[1000, "key", 0x1E, 0x1E61]],
-        }
-        saved = self.write("x.run.json", json.dumps(run_text, separators=(",", ":")))
-        for options in (("--key", "a"), ("--speed", "286")):
+        saved = self.write("x.run.json", json.dumps(SAVED, separators=(",", ":")))
+        rom = self.write("video.rom", ROM)
+        for options in (("--key", "a"), ("--speed", "286"), ("--rom", rom)):
             done = run("record", self.folder / "into2", "--in-page", saved, *options)
             hold_undone(
                 self, done, r"x\.run\.json is a saved run, which has its keys, speed and ROM"
             )
+
+    def test_the_rom_of_a_video_bios_serves_interrupt_10(self) -> None:
+        file, rom = self.write("a.com", SETTING), self.write("video.rom", ROM)
+        self.assertEqual(self.record(file, "--rom", rom, into="one")[0], 0)
+        cycles = [line.split(" ", 1)[1] for line in self.trace("one").splitlines()]
+        # The machine sets a mode as it begins, and then the program does.
+        self.assertEqual(cycles, ["w p 3C2 67 1", *2 * ["w p 3C8 5A 1"], "frame"])
+        note = json.loads((self.folder / "one" / "recording.json").read_text("ascii"))
+        given = {"a.com": SETTING, "video.rom": ROM}
+        digests = {name: sha256(data).hexdigest() for name, data in given.items()}
+        self.assertEqual((note["software"], note["words"]), (digests, ["a.com"]))
+        # One of more than 64 KiB is refused before anything runs.
+        long = self.write("long.rom", ROM.ljust(65537, b"\0"))
+        done = run("record", self.folder / "two", "--in-page", file, "--rom", long)
+        hold_undone(self, done, f"^vga-trace: {re.escape(long)}: it has more than 65,536 bytes")
+        self.assertFalse((self.folder / "two").exists())
+
+    def test_one_that_is_too_long(self) -> None:
+        file = self.write("a.com", MANY)
+        with mock.patch.object(keeper, "MOST_KEPT", 10):
+            done = run("record", self.folder / "into", "--in-page", file, "--seconds", "3600")
+        again = f"`vga-trace record {self.folder / 'into'} --again` judges it"
+        told = f"vga-trace: {self.folder / 'into'}: it has what was recorded: {again}\n"
+        full = "its trace has 10 bytes, as they are packed: --seconds ends the machine sooner"
+        self.assertEqual(done, (2, b"", f"{told}vga-trace: node: {full}\n"))
+        left = {path.name for path in (self.folder / "into").iterdir()}
+        self.assertEqual(left, {"recording.json", "trace.gz"})
+        self.assertIn(" int 0003 ", self.trace())
 
     def test_speeds(self) -> None:
         file = self.write("a.com", bytes.fromhex("B800B88EC0 26A20000 FEC0 EBF8"))

@@ -20,13 +20,7 @@ from .tools import PROGRAM, Folder, hold_undone, png_rows, ppm, refused, run_too
 
 
 TRACE = b"0+0 int 3 0 0 0\n1+9 w m B8000 41 1\n9+99 frame\n"
-NAMES = [
-    "picture-1.png",
-    "recording.json",
-    "screen-1.ppm",
-    "trace.gz",
-    "verdict.txt",
-]
+NAMES = ["picture-1.png", "recording.json", "screen-1.ppm", "trace.gz", "verdict.txt"]
 NOTE = {"is": "zaklimot recording", "version": 1, "machine": "page", "screens": [0.5]}
 
 
@@ -214,6 +208,20 @@ class Kept(Folder):
     def refusal(self, path: Path) -> str:
         """What is told of a ZIP that can't be unpacked."""
         return refused(lambda: unpacked(str(path)).__enter__())
+
+    def test_one_that_is_larger_than_a_zip_may_be(self) -> None:
+        self.keep()
+        listed = self.zip.read_bytes().index(b"PK\1\2")
+        # A file, and all of them together, whose list would begin too late.
+        for most in (20, listed - 1):
+            with mock.patch.object(zipfile, "ZIP64_LIMIT", most):
+                told = refused(keep, self.recorded, str(self.folder / "large.zip"))
+            self.assertEqual(told, f"{self.recorded}: it is larger than a ZIP may be", most)
+        self.assertFalse([name for name in self.names() if "large" in name], self.names())
+        with mock.patch.object(zipfile, "ZIP64_LIMIT", listed):
+            size = keep(self.recorded, str(self.folder / "large.zip"))
+        self.assertEqual((self.folder / "large.zip").read_bytes(), self.zip.read_bytes())
+        self.assertEqual(size, self.zip.stat().st_size)
 
     def test_a_recording_that_was_not_judged(self) -> None:
         told = refused(keep, self.recorded, str(self.zip))

@@ -100,9 +100,11 @@ class Text(Seen):
             with self.subTest(words):
                 hold_undone(self, self.run_command("text", TYPED, *words), told)
         untimed = self.write("untimed", b"- w p 3C2 67 1\n")
-        hold_undone(
-            self, self.run_command("text", untimed, "--at", "1"), "its cycles have no times"
-        )
+        for words, told in (
+            (["--at", "1"], "its cycles have no times"),
+            (["--cycle", "2"], "it has 1 cycle, and no cycle 2"),
+        ):
+            hold_undone(self, self.run_command("text", untimed, *words), told)
         hold_undone(
             self,
             self.run_command("text", "-", "--picture", "1"),

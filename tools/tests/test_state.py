@@ -237,6 +237,8 @@ class Cuts(unittest.TestCase):
     def test_no_cycle_there(self) -> None:
         told = refused(partial(steps_listed, noise(1, 5), first=6))
         self.assertEqual(told, "trace: it has 5 cycles, and none from 6 on becomes a step")
+        told = refused(partial(steps_listed, noise(1, 1), first=2))
+        self.assertEqual(told, "trace: it has 1 cycle, and none from 2 on becomes a step")
 
     def test_what_the_frame_under_way_has_taken_stays(self) -> None:
         state = state_of(

@@ -432,7 +432,7 @@ class Machines(Made):
     def test_a_report_that_is_too_short(self) -> None:
         made = self.reports("--first", 2)
         made[0].write_text("1 ok\n")
-        told = "it has 1 answers, and its script has [0-9]+ steps$"
+        told = "it has 1 answer, and its script has [0-9]+ steps$"
         hold_undone(self, self.judged("--first", 2), told)
         made[0].unlink()
         hold_undone(self, self.judged("--first", 2), "report: No such file or directory$")

@@ -206,7 +206,11 @@ class Lines(unittest.TestCase):
                 for data, told in (
                     *((BEGIN + f"{line}\n".encode(), no_cycle) for line in bad),
                     (BEGIN + b"0 w p 3C4 2 3\n", "2: a cycle has 1, 2, 4 or 8 bytes, and not 3"),
-                    (BEGIN + b"0 w p 3C4 302 1\n", "2: the value 302 has more than 1 bytes"),
+                    (BEGIN + b"0 w p 3C4 302 1\n", "2: the value 302 has more than 1 byte"),
+                    (
+                        BEGIN + b"0 w m A0000 10302 2\n",
+                        "2: the value 10302 has more than 2 bytes",
+                    ),
                     (BEGIN + b"0 w p FFFF 302 2\n", "2: there is no port of address FFFF"),
                     (
                         BEGIN + b"0 w m FFFFFFFF 302 2\n",
@@ -252,7 +256,7 @@ class Lines(unittest.TestCase):
                     self.assertEqual(warned(first + line + first), [told])
                     self.assertEqual(len(cycles(first + line + first)), 2)
             for bad, fault in (
-                ("write 3c2 167 1", "the value 167 has more than 1 bytes"),
+                ("write 3c2 167 1", "the value 167 has more than 1 byte"),
                 ("write 1ffff 67 1", "there is no port of address 1FFFF"),
             ):
                 self.assertIn(f"2: {fault}", refused(cycles, first + qemu(bad, front=front)))
@@ -293,8 +297,10 @@ class Lines(unittest.TestCase):
             warned,
             LACKING,
         )
-        told = "the time runs back 1 times, which is no pause"
-        self.assertEqual(warned(b"2 w p 3C2 67 1\n1 r p 3DA 0 1\n", has_time=True), [told])
+        for times, told in (((2, 1), "1 time"), ((3, 2, 2, 1), "2 times")):
+            data = b"".join(b"%d w p 3C2 67 1\n" % time for time in times)
+            lacking = [f"the time runs back {told}, which is no pause"]
+            self.assertEqual(warned(data, has_time=True), lacking)
 
 
 class Steps(unittest.TestCase):

@@ -3,7 +3,7 @@ ports alone, such as emulators and machines that boot an image of vga-floppy."""
 
 import argparse
 from pathlib import Path
-from typing import Iterator, Optional
+from typing import Iterator, Optional, Sequence
 
 from zaklimot.format import MOST_BYTES, Answer, printed
 from zaklimot_tools.core.files import name_of
@@ -32,7 +32,16 @@ from .scripts import reached, text_lines
 
 def _stem(path: str) -> str:
     """The folder of a file's scripts."""
-    return Path(path).name.partition(".")[0]
+    return Path(path).name.lstrip(".").partition(".")[0]
+
+
+def _check_stems(paths: Sequence[str]) -> None:
+    """Ends the work, before it begins, where the scripts of two files would have one folder."""
+    for number, path in enumerate(paths):
+        for other in paths[:number]:
+            if _stem(other) == _stem(path):
+                told = f"its scripts would have the folder of {name_of(other)}: {_stem(path)}"
+                raise Trouble(told, name_of(path))
 
 
 def _asked(path: str, most: Optional[int]) -> Iterator[tuple[int, Element]]:
@@ -59,6 +68,7 @@ def _front(path: str) -> Iterator[str]:
 
 def write_scripts(words: argparse.Namespace, _: Progress) -> int:
     """Writes the scripts of elements into a folder, with the cycles that read the state."""
+    _check_stems(words.file)
     folder = empty_folder(words.folder)
     front = [] if words.before is None else [*_front(words.before)]
     listed = [name for path in words.file for name in _written(folder, path, words.first, front)]
@@ -81,6 +91,7 @@ def _written(folder: Path, path: str, most: Optional[int], front: list[str]) -> 
 
 def judge_reports(words: argparse.Namespace, progress: Progress) -> int:
     """Compares the reports of such scripts with the elements."""
+    _check_stems(words.file)
     held = []
     for path in words.file:
         held.append(_held(words, path, progress))
@@ -113,8 +124,8 @@ def _given(element: Element, report: str) -> Element:
     before = len(answers) - 1 - len(cycles)
     least = len(reached(element))
     if before < least:
-        many = f"{len(answers)} answers, and its script has {least + 1 + len(cycles)} steps"
-        raise Trouble(f"it has {many}", report)
+        told = f"it has {counted(len(answers), 'answer')}, and its script has"
+        raise Trouble(f"{told} {least + 1 + len(cycles)} steps", report)
     step, *others = answers[before:]
     read = [answer for cycle, answer in zip(cycles, others) if cycle.place]
     if any(answer.answer == SKIPPED for answer in (step, *read)):

@@ -252,7 +252,7 @@ def _recorded(words: argparse.Namespace, folder: Path, progress: Progress) -> No
         progress.clear()
         print(f"vga-trace: {text}", file=sys.stderr)
 
-    folder.mkdir(parents=True, exist_ok=True)
+    files().make_folder(folder)
     try:
         return recorder.record(folder, say, progress)
     except BaseException:
@@ -261,6 +261,3 @@ def _recorded(words: argparse.Namespace, folder: Path, progress: Progress) -> No
                 f"{folder}: it has what was recorded: `vga-trace record {folder} --again` judges it"
             )
         raise
-    finally:
-        if not any(folder.iterdir()):
-            folder.rmdir()

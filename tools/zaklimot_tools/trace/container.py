@@ -6,6 +6,7 @@ import zipfile
 import zlib
 from contextlib import contextmanager
 from pathlib import Path
+from shutil import copyfileobj
 from tempfile import TemporaryDirectory
 from typing import BinaryIO, Iterator
 
@@ -51,9 +52,12 @@ def keep(folder: Path, path: str) -> int:
             told = "is no recording that was judged: `vga-trace record FOLDER --again` judges it"
             raise Trouble(f"it has no {name}, and {told}", str(folder))
     with writing(path) as stream:
-        with zipfile.ZipFile(stream, "w", allowZip64=False) as archive:
-            for name in names:
-                _add(archive, folder / name)
+        try:
+            with zipfile.ZipFile(stream, "w", allowZip64=False) as archive:
+                for name in names:
+                    _add(archive, folder / name)
+        except (zipfile.LargeZipFile, RuntimeError) as error:
+            raise Trouble("it is larger than a ZIP may be", str(folder)) from error
         return stream.tell()
 
 
@@ -63,12 +67,8 @@ def _add(archive: zipfile.ZipFile, path: Path) -> None:
     is_packed = path.suffix in PACKED
     entry.compress_type = zipfile.ZIP_STORED if is_packed else zipfile.ZIP_DEFLATED
     entry.file_size = path.stat().st_size
-    try:
-        with open(path, "rb") as source, archive.open(entry, "w") as target:
-            while data := source.read(CHUNK):
-                target.write(data)
-    except (zipfile.LargeZipFile, RuntimeError) as error:
-        raise Trouble("it is larger than a ZIP may be", str(path)) from error
+    with open(path, "rb") as source, archive.open(entry, "w") as target:
+        copyfileobj(source, target, CHUNK)
 
 
 @contextmanager
@@ -121,11 +121,6 @@ def _checked(entries: list[zipfile.ZipInfo], path: str) -> list[zipfile.ZipInfo]
 
 
 def _unpack(archive: zipfile.ZipFile, entry: zipfile.ZipInfo, path: Path) -> None:
-    """Unpacks a file: never more bytes than it says that it has."""
-    left = entry.file_size
+    """Unpacks a file. `zipfile` reads never more bytes than it says that it has."""
     with archive.open(entry) as source, open(path, "xb") as target:
-        while data := source.read(CHUNK):
-            left -= len(data)
-            if left < 0:
-                raise zipfile.BadZipFile(f"{entry.filename} has more bytes than it says")
-            target.write(data)
+        copyfileobj(source, target, CHUNK)

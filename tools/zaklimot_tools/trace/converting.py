@@ -230,7 +230,8 @@ class Listing:
         """What the trace lacks, a line each; the steps must have passed."""
         yield from self.trace.warnings()
         if self._pauses.backwards:
-            yield f"the time runs back {self._pauses.backwards:,} times, which is no pause"
+            times = counted(self._pauses.backwards, "time", ",")
+            yield f"the time runs back {times}, which is no pause"
         clocked = self._clocked
         if clocked.shortened:
             silences = counted(clocked.shortened, "silence")
@@ -256,10 +257,8 @@ class Listing:
                 raise Trouble(f"cycle {step.cycle:,} is {reason}", self.trace.name)
             state.take(step)
         else:
-            told = (
-                f"it has {self.trace.count:,} cycles, and none from {self._first:,} on becomes a"
-                " step"
-            )
+            cycles = counted(self.trace.count, "cycle", ",")
+            told = f"it has {cycles}, and none from {self._first:,} on becomes a step"
             raise Trouble(told, self.trace.name)
         for rebuilding in rebuilt(state):
             self.rebuilding += 1

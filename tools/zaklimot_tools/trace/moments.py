@@ -5,6 +5,7 @@ from dataclasses import dataclass
 from itertools import chain
 from typing import Iterator, Optional
 
+from zaklimot_tools.core.streams import counted
 from zaklimot_tools.core.trouble import Trouble
 
 from .clocked import Clocked
@@ -130,8 +131,8 @@ class Steps:
     def _check_reached(self, moment: Moment) -> None:
         name = self.trace.name
         if moment.cycle is not None and self.trace.count < moment.cycle:
-            told = f"it has {self.trace.count:,} cycles, and no cycle {moment.cycle:,}"
-            raise Trouble(told, name)
+            cycles = counted(self.trace.count, "cycle", ",")
+            raise Trouble(f"it has {cycles}, and no cycle {moment.cycle:,}", name)
         if moment.screen is not None and not self._is_past_screen(moment):
             screens = self.trace.screens
             count = len(screens) if self.trace.has_dots else -(-len(screens) // PHASES)

@@ -17,7 +17,7 @@ from typing import Callable, Iterable, Iterator, NamedTuple, Optional, Protocol,
 
 from zaklimot.format import MOST_BLOCK
 from zaklimot_tools.core.files import name_of
-from zaklimot_tools.core.streams import reading, to_read
+from zaklimot_tools.core.streams import counted, reading, to_read
 from zaklimot_tools.core.trouble import Trouble
 from zaklimot_tools.explain.banks import MISC, SEQUENCER
 
@@ -146,7 +146,7 @@ class Cycle(NamedTuple):
         if self.size not in SIZES:
             return f"a cycle has 1, 2, 4 or 8 bytes, and not {self.size}"
         if self.value >> 8 * self.size:
-            return f"the value {self.value:X} has more than {self.size} bytes"
+            return f"the value {self.value:X} has more than {counted(self.size, 'byte')}"
         is_memory = self.space in (MEMORY, VESA)
         if self.address + self.size - 1 > (MOST_ADDRESS if is_memory else MOST_PORT):
             return f"there is no {self.space} of address {self.address:X}"
