@@ -4,6 +4,7 @@ script, and what is told of steps that were refused or differ."""
 from __future__ import annotations
 
 import re
+import struct
 from io import BytesIO
 from itertools import product
 from pathlib import Path
@@ -203,8 +204,9 @@ class Parts(Folder):
             (("--longest", "7"), "7.029"),
         )
         for more, told in given:
-            words = ("pictures", path, "--apng", moving, "--vga", program, *more)
+            words = ("pictures", path, "--apng", moving, "--scale", "3", "--vga", program, *more)
             self.assertEqual(run(*words)[1].decode(), f"{moving}: 1 picture, {told} seconds\n")
+            self.assertEqual(struct.unpack_from(">II", moving.read_bytes(), 16), (27, 3))
 
 
 class Told(Folder):
@@ -224,6 +226,23 @@ class Told(Folder):
                 "in port 3CC (first at step 3: traced 05, answered 67)",
             ],
         )
+
+    def test_where_the_beam_is_counts_where_dots_pass(self) -> None:
+        path = self.write("trace", b"0+0 w p 3C2 67 1\n0+5 r p 3DA 04 1\n0+1 r p 3CC 67 1\n")
+        untimed = self.write("untimed", b"0 w p 3C2 67 1\n0 r p 3DA 04 1\n0 r p 3CC 67 1\n")
+        for trace_path, words, answers, status in (
+            (path, ("--time",), ("ok", "ok", "05", "ok", "67"), 1),
+            (path, ("--time",), ("ok", "ok", "04", "ok", "67"), 0),
+            (path, (), ("ok", "05", "67"), 0),
+            (untimed, (), ("ok", "05", "67"), 0),
+            (untimed, ("--time",), ("ok", "05", "67"), 0),
+        ):
+            frames = [PICTURE] * (2 if words else 1)
+            given = report(*answers, *frames)
+            done = run("check", trace_path, "-", *words, given=given)
+            self.assertEqual((done[0], done[2]), (status, ""), (trace_path, words))
+            told = b"in port 3DA (first at step 3: traced 04, answered 05)"
+            self.assertEqual(told in done[1], status == 1)
 
     def test_registers_are_those_that_the_index_has_chosen(self) -> None:
         def index(*lines: str) -> str:

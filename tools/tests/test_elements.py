@@ -223,6 +223,38 @@ class Confirming(Elements):
         self.assertEqual(done, (0, f"{SEQUENCER}: 20 elements, 0 differ\n", ""))
 
 
+class Making(Elements):
+    def names(self, *words: str | int) -> list[str]:
+        """The names of the files that are made, in the order in which they are told."""
+        status, output, said = steps("make", self.folder / "made", "--seed", 2, *words)
+        self.assertEqual((status, said), (0, ""))
+        return [Path(line).name for line in output.splitlines()]
+
+    def test_kinds_by_several_prefixes_and_files_that_are_replaced(self) -> None:
+        # They come in the order of the table, each once.
+        words = ("--only", "sequencer", "--only", "write-words", "--only", "seq", "--plain")
+        wanted = ["write-words.json", "sequencer.json"]
+        for count in (2, 1):
+            self.assertEqual(self.names("--count", count, *words), wanted)
+            for name in wanted:
+                found = list(read_elements(str(self.folder / "made" / name)))
+                self.assertEqual(len(found), count)
+                # The first elements of a seed are the same, however many follow.
+                example = next(iter(read_elements(str(STEPS_EXAMPLES / f"{name}.gz"))))
+                self.assertEqual(found[0], example)
+        self.assertEqual(
+            sorted(path.name for path in (self.folder / "made").iterdir()), wanted[::-1]
+        )
+
+    def test_a_folder_that_was_made_in_vain_is_gone(self) -> None:
+        with mock.patch.dict(os.environ, ZAKLIMOT_LIBRARY=self.write("library", "none")):
+            for jobs in (1, 2):
+                folder = self.folder / "a" / "b"
+                done = steps("make", folder, "--count", 1, "--only", "clock", "--jobs", jobs)
+                hold_undone(self, done, "it is no library of the adapter")
+                self.assertFalse((self.folder / "a").exists(), jobs)
+
+
 class Coverage(Elements):
     def setUp(self) -> None:
         super().setUp()

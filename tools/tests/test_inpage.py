@@ -63,6 +63,21 @@ SAVED = {
     "software": {"program": "q5dhkGBgYGBgYGBgYPh/gQEA"},
     "inputs": [[1000, "key", 0x1E, 0x1E61]],
 }
+# Keys that qemu calls otherwise than by their letters, and what they type.
+TYPED = {
+    "spc": "  ",
+    "minus": "-_",
+    "equal": "=+",
+    "bracket_left": "[{",
+    "bracket_right": "]}",
+    "semicolon": ";:",
+    "apostrophe": "'\"",
+    "grave_accent": "`~",
+    "backslash": "\\|",
+    "comma": ",<",
+    "dot": ".>",
+    "slash": "/?",
+}
 # The files that a recording of two screens leaves.
 RECORDED = [
     "picture-1.png",
@@ -379,6 +394,24 @@ class WithoutNode(Folder):
                 run("record", into, "--in-page", file, "--vga", program),
                 "they lie in the repository",
             )
+
+    def test_what_keys_type(self) -> None:
+        """The letters of each key of a keyboard of the United States, without Shift and with it."""
+        names = dict(zip("1234567890", "!@#$%^&*()"))
+        names.update({letter: letter.upper() for letter in "abcdefghijklmnopqrstuvwxyz"})
+        for name, shifted in names.items():
+            part = inpage._part(name)
+            self.assertEqual((part["key"], part["shifted"], part["modifier"]), (name, shifted, ""))
+        for name, typed in TYPED.items():
+            part = inpage._part(name)
+            self.assertEqual(part["key"] + part["shifted"], typed, name)
+        for name, flag in (("shift_r", "shiftKey"), ("ctrl", "ctrlKey"), ("alt_r", "altKey")):
+            self.assertEqual(inpage._part(name)["modifier"], flag)
+        for name in ("ret", "f1", "f11", "kp_0", "kp_9", "kp_enter", "caps_lock"):
+            part = inpage._part(name)
+            self.assertEqual({part["key"], part["shifted"], part["code"]}, {part["code"]}, name)
+        told = [inpage._deed(deed)["told"] for deed in (Deed(2.5, ("ctrl-c", "a")), Deed())]
+        self.assertEqual(told, ["the keys ctrl-c,a", "a screen"])
 
     def test_keys(self) -> None:
         """Each key that is named has a place that the page's machine knows."""

@@ -3,18 +3,24 @@ no recordings."""
 
 from __future__ import annotations
 
+import contextlib
 import gzip
 import hashlib
+import io
 import json
 import os
 import struct
 import zipfile
 from pathlib import Path
+from typing import Any
 from unittest import mock
 
+from zaklimot_tools.core.progress import Progress
+from zaklimot_tools.script.words import FONTS
 from zaklimot_tools.trace import container
 from zaklimot_tools.trace.container import keep, unpacked
-from zaklimot_tools.trace.note import digests_of
+from zaklimot_tools.trace.judging import Judging
+from zaklimot_tools.trace.note import digests_of, note_of
 
 from .tools import PROGRAM, Folder, hold_undone, png_rows, ppm, refused, run_tool, want_program
 
@@ -122,6 +128,33 @@ class Kept(Folder):
         self.assertEqual(status, 1)
         self.assertIn("the verdict is otherwise than it was kept: 1 cycle\n", output)
 
+    def test_each_of_the_verdict_differs_alone(self) -> None:
+        self.judge(self.recorded)
+        width, height, rows = png_rows((self.recorded / "picture-1.png").read_bytes())
+        self.write("recorded/screen-1.ppm", b"P6 %d %d 255\n%b" % (width, height, b"".join(rows)))
+        lines = TRACE.splitlines(keepends=True)
+        refused_too = b"".join([lines[0], b"0+0 w p 3C6 FF 1\n0+0 r p 3C7 0 1\n", *lines[1:]])
+        read = b"".join([lines[0], b"0+0 r p 3C6 %02X 1\n", *lines[1:]])
+        cases: tuple[tuple[bytes, dict[str, Any], int], ...] = (
+            (TRACE, {}, 0),
+            # The machine has refused what the adapter refuses.
+            (refused_too, {"refusals": 1}, 0),
+            (refused_too, {}, 1),
+            (refused_too, {"refusals": 2}, 1),
+            (TRACE, {"refusals": 1}, 1),
+            (read % 0xFF, {}, 0),
+            (read % 0xFE, {}, 1),
+            # A recording without a screen has nothing that agrees.
+            (TRACE, {"screens": []}, 1),
+        )
+        judging = Judging(str(PROGRAM), str(FONTS), Progress())
+        for data, more, wanted in cases:
+            self.write("recorded/trace.gz", packed(data))
+            self.write("recorded/recording.json", json.dumps({**NOTE, **more}))
+            with contextlib.redirect_stdout(io.StringIO()):
+                status = judging.judge(note_of(self.recorded), self.recorded)
+            self.assertEqual(status, wanted, (data, more))
+
     def test_dots_that_differ_are_kept(self) -> None:
         # The machine has shown another first dot.
         self.judge(self.recorded)
@@ -184,12 +217,20 @@ class Kept(Folder):
 
     def test_bounds(self) -> None:
         self.keep()
-        with mock.patch.object(container, "MOST_UNPACKED", 1000):
-            self.assertIn("would have more than 1,000 bytes", self.refusal(self.zip))
-        with mock.patch.object(container, "MOST_FILES", 4):
-            self.assertIn("it lists 5 files", self.refusal(self.zip))
-        with mock.patch.object(container, "MOST_LISTED", 64):
-            self.assertRegex(self.refusal(self.zip), r"in \d+ bytes")
+        with zipfile.ZipFile(self.zip) as archive:
+            size = sum(one.file_size for one in archive.infolist())
+        data = self.zip.read_bytes()
+        (listed,) = struct.unpack_from("<I", data, len(data) - 22 + 12)
+        # What a ZIP may have at most, and a file or a byte more.
+        for name, most, told in (
+            ("MOST_UNPACKED", size, f"its files would have more than {size - 1:,} bytes"),
+            ("MOST_FILES", 5, f"it is no recording: it lists 5 files in {listed} bytes"),
+            ("MOST_LISTED", listed, f"it is no recording: it lists 5 files in {listed} bytes"),
+        ):
+            with mock.patch.object(container, name, most), unpacked(str(self.zip)) as made:
+                self.assertEqual(sorted(path.name for path in made.iterdir()), NAMES)
+            with mock.patch.object(container, name, most - 1):
+                self.assertEqual(self.refusal(self.zip), f"{self.zip}: {told}")
         # A file that says it is shorter than it is.
         data = bytearray(self.zip.read_bytes())
         for mark, at in ((b"PK\3\4", 22), (b"PK\1\2", 24)):

@@ -335,10 +335,20 @@ class Files(Seen):
         words = "0 int 3 0 0 0\n1 int 0100 0 2000 0\n2 w p 3D4 010C 2\n2 w p 3D4 070D 2\n"
         trace = self.write("moved", words + "3 w m B8210 0741 2\n")
         out, pages = self.folder / "out.png", self.folder / "pages"
-        self.assertIn("page-0107.png\n", self.done("screen", trace, out, "--pages", pages))
+        told = self.done("screen", trace, out, "--pages", pages, "--scale", "2")
+        self.assertIn("page-0107.png\n", told)
         shown = png_rows(out.read_bytes())
+        self.assertEqual(shown[:2], (1440, 800))
         self.assertEqual(png_rows((pages / "page-0107.png").read_bytes()), shown)
         self.assertNotEqual(png_rows((pages / "page-0000.png").read_bytes()), shown)
+
+    def test_text_in_a_file(self) -> None:
+        out = self.folder / "out.txt"
+        for form in ("plain", "ansi", "html"):
+            words = ("--at", "1.5", "--form", form)
+            self.assertEqual(self.done("text", self.calls, out, *words), "")
+            self.assertEqual(out.read_bytes(), self.bytes_of("text", self.calls, *words))
+            self.assertIn("\u263a".encode(), out.read_bytes())
 
     def test_a_picture_on_standard_output(self) -> None:
         out = self.folder / "out.png"

@@ -109,14 +109,7 @@ with connection, connection.makefile("rw") as monitor:
 """
 # What a recording leaves.
 KEPT_OF_SCREEN = ["picture-1.png"]
-KEPT = [
-    "recording.json",
-    "report.txt",
-    "screen-1.ppm",
-    "script.bin",
-    "trace.gz",
-    "verdict.txt",
-]
+KEPT = ["recording.json", "report.txt", "screen-1.ppm", "script.bin", "trace.gz", "verdict.txt"]
 NOTE_OF_NO_MACHINE = {"is": "zaklimot recording", "version": 1, "machine": "none"}
 # A line that the filter of the log keeps, and one of another device.
 LINES = qemu("write 3c2 67 1") + qemu("write 70 f 1", "rtc")
@@ -346,6 +339,15 @@ class Recorded(Folder):
                 self.assertEqual((status, lines, self.into.exists()), (2, [], False), said)
                 self.assertEqual(said, f"vga-trace: {told}")
 
+    def test_folders_that_were_made_in_vain_are_gone(self) -> None:
+        own = self.folder / "own"
+        own.mkdir()
+        for folder in (self.folder / "a" / "b", own / "c", own):
+            done = run("record", folder, "--vga", self.answering("ok"), "--", "-ends")
+            hold_undone(self, done, "it doesn't begin: there is no such disc")
+            # The one that was there stays.
+            self.assertEqual((list(own.iterdir()), (self.folder / "a").exists()), ([], False))
+
     def test_what_was_recorded_before_a_trouble_stays(self) -> None:
         first = "qmp_capabilities"
         for words, told, last in (
@@ -544,6 +546,42 @@ class Recorded(Folder):
         self.assertTrue(session.is_due(Deed()))
         keeper.size = 0
         self.assertFalse(session.is_due(Deed()))
+
+    def test_what_is_told_of_an_early_end(self) -> None:
+        late = "before it was time for {}: the screen is taken now, and the rest left out".format
+        over, full = "1.5 seconds were over", "its trace can't be kept: oh"
+        last, fold = ": the last screen is taken now", "; --polls first folds polls"
+        keys = Deed(None, ("a", "ctrl-b"))
+        for deed, is_last, keeper, polls, told in (
+            (Deed(), True, ("", False), "keep", "the software was still busy when its screen"),
+            (Deed(9.0), False, ("", False), "keep", f"{over} {late('a screen')}"),
+            (keys, False, ("", False), "keep", f"{over} {late('the keys a,ctrl-b')}"),
+            (Deed(), True, (full, False), "keep", f"{full}{last}{fold}"),
+            (Deed(), False, (full, False), "first", f"{full}{last}"),
+            (keys, True, (full, True), "keep", f"{full}{fold}"),
+        ):
+            said: list[str] = []
+            session = Session(
+                QemuMachine((), most=1.5, polls=polls),
+                mock.Mock(),
+                mock.Mock(full=keeper[0], is_lost=keeper[1]),
+                Path("folder"),
+                mock.Mock(),
+            )
+            session._end_early(deed, is_last, said.append)
+            self.assertEqual([one[: len(told)] for one in said], [told])
+            self.assertEqual(session.note.ended, keeper[0] or over)
+
+    def test_words_of_ones_own_come_last(self) -> None:
+        machine = QemuMachine(("-m", "512", "-cdrom", "x"))
+        words = recording._qemu(machine, self.folder)
+        # What is given twice counts as it is given last.
+        self.assertEqual(words[-4:], ["-m", "512", "-cdrom", "x"])
+        self.assertEqual([words[at + 1] for at, word in enumerate(words) if word == "-m"][0], "128")
+        for word in ("-nodefaults", "-no-reboot", f"events={self.folder}/events"):
+            self.assertIn(word, words)
+        events = (self.folder / "events").read_text().split()
+        self.assertEqual(events, [f"memory_region_ops_{kind}" for kind in ("read", "write")])
 
     def test_a_frame_at_each_screen(self) -> None:
         mark = SCREEN + b"\n"

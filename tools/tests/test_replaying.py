@@ -404,6 +404,36 @@ class Keeping(Folder):
             into.close()
         self.assertEqual(keeper.frame_polls, 3)
 
+    def test_how_long_a_frame_is(self) -> None:
+        """A sixtieth of a second, from its first line on, at either port."""
+        line = (
+            b"1@%d.%06d:memory_region_ops_read cpu 0 mr 0x1 addr 0x%s value 0x0 size 1 name 'v'\n"
+        )
+        for micros, count in ((0, 2), (16_666, 2), (16_667, 1), (-1, 1)):
+            for port in (b"3da", b"3ba"):
+                first, other = (
+                    line % (at // 10**6, at % 10**6, port) for at in (10**6, 10**6 + micros)
+                )
+                with open(self.write("log", first + other), "rb") as log:
+                    into = Parts(self.folder)
+                    keeper = Keeper(log, into)
+                    with mock.patch.object(keeping, "CHUNK", len(first)):
+                        keeper.run()
+                    into.close()
+                self.assertEqual(keeper.frame_polls, count, (micros, port))
+
+    def test_polls_with_a_beam_fold_within_its_retrace_and_outside(self) -> None:
+        polls = [qemu(f"read 3da {value} 1") for value in "0110889001"]
+        stays = {0: 3, 4: 2, 7: 2}
+        wanted = b"".join(
+            polls[at] + (b"polls %d of 'vga-trace'\n" % count) for at, count in stays.items()
+        )
+        folding = Folding(True)
+        self.assertEqual(folding.folded(b"".join(polls)) + folding.end(), wanted)
+        one_by_one = Folding(True)
+        kept = b"".join(map(one_by_one.folded, polls))
+        self.assertEqual(kept + one_by_one.end(), wanted)
+
     def test_parts_that_roll(self) -> None:
         lines = b"".join(b"line %d\n" % number for number in range(100))
         with mock.patch.object(parts, "PART_LINES", 200):

@@ -4,11 +4,14 @@ from __future__ import annotations
 
 import unittest
 from functools import partial
+from unittest import mock
 
+from zaklimot_tools.trace import trace as reading
 from zaklimot_tools.trace.converting import count
 from zaklimot_tools.trace.step import IN, OUT, TraceStep, steps_of, without_polls
 from zaklimot_tools.trace.trace import MEMORY, PORT, SCREEN, VBE, Cycle
 
+from .test_conversions import SHAPE
 from .tools import hold, refused
 from .tracing import BEGIN, cycles, listed, qemu, texts, warned
 
@@ -94,10 +97,7 @@ FORMS_OF_CYCLES = (
     *(
         (
             qemu("write 3c4 302 2", name) + qemu("read 3c4 2 1", name),
-            [
-                Cycle(True, space, 0x3C4, 0x302, 2, None),
-                Cycle(False, space, 0x3C4, 2, 1, None),
-            ],
+            [Cycle(True, space, 0x3C4, 0x302, 2, None), Cycle(False, space, 0x3C4, 2, 1, None)],
         )
         for name, space in (
             ("vga", PORT),
@@ -185,11 +185,7 @@ LACKING: tuple[tuple[bytes, list[str]], ...] = (
 
 class Lines(unittest.TestCase):
     def test_cycles_of_both_forms(self) -> None:
-        hold(
-            self,
-            cycles,
-            FORMS_OF_CYCLES,
-        )
+        hold(self, cycles, FORMS_OF_CYCLES)
 
     def test_faults(self) -> None:
         none = "it has no cycle, neither of qemu's log nor of the plain form"
@@ -207,10 +203,7 @@ class Lines(unittest.TestCase):
                     *((BEGIN + f"{line}\n".encode(), no_cycle) for line in bad),
                     (BEGIN + b"0 w p 3C4 2 3\n", "2: a cycle has 1, 2, 4 or 8 bytes, and not 3"),
                     (BEGIN + b"0 w p 3C4 302 1\n", "2: the value 302 has more than 1 byte"),
-                    (
-                        BEGIN + b"0 w m A0000 10302 2\n",
-                        "2: the value 10302 has more than 2 bytes",
-                    ),
+                    (BEGIN + b"0 w m A0000 10302 2\n", "2: the value 10302 has more than 2 bytes"),
                     (BEGIN + b"0 w p FFFF 302 2\n", "2: there is no port of address FFFF"),
                     (
                         BEGIN + b"0 w m FFFFFFFF 302 2\n",
@@ -234,6 +227,18 @@ class Lines(unittest.TestCase):
                 )
             ),
         )
+
+    def test_a_front_without_a_cycle_has_an_end(self) -> None:
+        front = 3 * b"; none\n"
+        # The first cycle may end so many bytes from the begin.
+        size = len(front + BEGIN)
+        with mock.patch.object(reading, "MOST_BEFORE", size):
+            self.assertEqual(len(cycles(front + BEGIN + 100 * front)), 1)
+        with mock.patch.object(reading, "MOST_BEFORE", size - 1):
+            told = f"it has no cycle in its first {size - 1} bytes"
+            self.assertEqual(refused(cycles, front + BEGIN), f"trace: {told}")
+            named = refused(cycles, b"; none\nhello\n" + 2 * front)
+            self.assertEqual(named, f"trace:2: {told}; this line is the first that is no comment")
 
     def test_lines_that_are_like_those_before(self) -> None:
         """Most lines of a log are looked up by those before them. What is damaged is damaged
@@ -265,11 +270,7 @@ class Lines(unittest.TestCase):
         self.assertEqual([cycle.time for cycle in found], [1000001, 2000001, 3000001])
 
     def test_calls_dots_and_frames_that_were_kept(self) -> None:
-        hold(
-            self,
-            lambda wanted: listed(KEPT_DATA, **wanted),
-            KEPT_LISTED,
-        )
+        hold(self, lambda wanted: listed(KEPT_DATA, **wanted), KEPT_LISTED)
         self.assertEqual(warned(KEPT_DATA), [])
         self.assertEqual(
             count(cycles(KEPT_DATA)),
@@ -285,18 +286,10 @@ class Lines(unittest.TestCase):
             " after it begins at power-on"
         )
         self.assertEqual(refused(partial(listed, KEPT_DATA, first=3)), told)
-        hold(
-            self,
-            partial(refused, cycles),
-            KEPT_REFUSED,
-        )
+        hold(self, partial(refused, cycles), KEPT_REFUSED)
 
     def test_what_a_trace_lacks(self) -> None:
-        hold(
-            self,
-            warned,
-            LACKING,
-        )
+        hold(self, warned, LACKING)
         for times, told in (((2, 1), "1 time"), ((3, 2, 2, 1), "2 times")):
             data = b"".join(b"%d w p 3C2 67 1\n" % time for time in times)
             lacking = [f"the time runs back {told}, which is no pause"]
@@ -344,6 +337,16 @@ class Steps(unittest.TestCase):
                 ),
             ),
         )
+
+    def test_the_time_before_a_wide_cycle_passes_once(self) -> None:
+        data = b"0+0 w p 3C2 67 1\n1+100 w m A0000 44332211 4\n2+7 w m A0005 1 1\n"
+        words = ["putw A0000 2211", "putw A0002 4433"]
+        wanted = ["out 3C2 67", "advance 100", *words, "advance 7", "put A0005 01"]
+        self.assertEqual(listed(data, has_time=True), [*wanted, "frame", "frame"])
+        # Times that are less than a line are put together across it.
+        puts = b"1000 w m A0005 1 1\n1020 w m A0000 44332211 4\n1035 w m A0005 1 1\n"
+        wanted = ["advance 28322", "put A0005 01", *words, "advance 991", "put A0005 01"]
+        self.assertEqual(listed(SHAPE + puts, has_time=True)[5:], [*wanted, "frame", "frame"])
 
     def test_vbe_is_left_out_and_separates_nothing(self) -> None:
         lines = (

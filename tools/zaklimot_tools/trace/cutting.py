@@ -80,8 +80,9 @@ class Cutting:
             if answer.number > before:
                 found.take(answer)
         # Amid a frame the beam has counters that are those of the frame's begin.
-        wanted = {name: told.shown[name] for name in found.shown if name != "beam"}
-        if found.state.beam.place != told.state.beam.place or wanted.items() > found.shown.items():
+        shown = ((lines, told.shown[name]) for name, lines in found.shown.items() if name != "beam")
+        is_there = found.state.beam.place == told.state.beam.place
+        if not (is_there and all(lines == others for lines, others in shown)):
             raise Trouble(NOT_REBUILT, str(script))
 
     def _told(self, script: Path) -> Told:

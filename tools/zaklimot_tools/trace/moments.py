@@ -101,7 +101,8 @@ class Steps:
                 return
             if moment.at is not None and cycle.time is not None:
                 began = cycle.time if began is None else began
-                if cycle.time - began > moment.at * SECOND:
+                # Some seconds are a little less than their microseconds, as 1.001.
+                if cycle.time - began > round(moment.at * SECOND):
                     return
             yield cycle
 

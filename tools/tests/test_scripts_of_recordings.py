@@ -1,0 +1,186 @@
+"""Recordings that are too long for one script: where each script ends, what is told of one that
+doesn't rebuild the state, or has no room, and the verdict on all of them."""
+
+from __future__ import annotations
+
+import json
+from pathlib import Path
+from typing import Any, Iterator
+from unittest import mock
+
+from zaklimot.format import Step, encoded
+from zaklimot_tools.core.progress import Progress
+from zaklimot_tools.script.words import FONTS
+from zaklimot_tools.trace import converting, replaying
+from zaklimot_tools.trace.note import Note, note_of, told_of_beam
+from zaklimot_tools.trace.parts import Parts
+from zaklimot_tools.trace.rebuilding import rebuilt_as_told
+from zaklimot_tools.trace.replaying import Replay, replay
+from zaklimot_tools.trace.state import State, rebuilt
+from zaklimot_tools.trace.step import ADVANCE, GET, IN, OUT, TraceStep
+from zaklimot_tools.trace.told import Told
+
+from .tools import PROGRAM, Folder, hold, refused, run_program, want_program
+from .tracing import qemu
+
+# The registers of text of 720 by 400 dots; then a byte is written all the 997 dots. Seven frames
+# pass, and the last of them is kept.
+WORDS = ("3C4 0001", "3D4 5F00", "3D4 BF06", "3D4 1F07", "3D4 4F01", "3D4 8F12", "3C4 0F02")
+SHAPE = ("3C2 67 1", *(f"{word} 2" for word in (*WORDS, "3CE FF08")), "3C0 20 1")
+DOTS = 997
+MANY = 3000
+FRAME = 900 * 449
+# So many bytes has a script of what is traced at most, and its last frame.
+OF_TRACE, OF_FRAME = 20_000, 7_000
+
+
+def lines() -> Iterator[str]:
+    """The lines of the trace."""
+    yield from (f"0+0 w p {one}" for one in SHAPE)
+    for at in range(MANY):
+        yield f"{at}+{DOTS} w m {0xA0000 + at % 500:X} {at % 251 + 1:02X} 1"
+        if at == 6 * FRAME // DOTS:
+            yield f"{at}+{7 * FRAME - (at + 1) * DOTS} frame"
+
+
+class Long(Folder):
+    def setUp(self) -> None:
+        super().setUp()
+        want_program()
+        self.recorded = self.folder / "recorded"
+        self.recorded.mkdir()
+
+    def keep(self, data: bytes) -> None:
+        """Keeps the trace of a recording."""
+        kept = Parts(self.recorded)
+        kept.write(data)
+        kept.close()
+
+    def replayed(self, is_own: bool, of_trace: int = OF_TRACE) -> Replay:
+        """The recording, replayed by scripts that have little room."""
+        free = converting.FOR_THE_END + (OF_FRAME if is_own else 0)
+        with mock.patch.object(converting, "MOST_BYTES", free + of_trace), mock.patch.object(
+            replaying, "REST_OF_FRAME", OF_FRAME
+        ):
+            return replay(self.recorded, str(PROGRAM), str(FONTS), Progress(), is_own)
+
+
+class OfThePage(Long):
+    """Recordings of the page's machine, whose scripts have the exact time."""
+
+    def setUp(self) -> None:
+        super().setUp()
+        self.keep("".join(f"{line}\n" for line in lines()).encode())
+
+    def scripts(self) -> list[Path]:
+        return sorted(self.recorded.glob("script*.bin"), key=lambda path: (len(path.name), path))
+
+    def beam_after(self, script: Path) -> str:
+        """The place of the beam after a script."""
+        asked = self.folder / "asked"
+        asked.write_bytes(script.read_bytes() + encoded(Step("show beam", ())))
+        told = run_program("run", asked, "--fonts", FONTS).report.splitlines()[-1].decode()
+        return told.partition(" line ")[2]
+
+    def test_each_script_but_the_last_ends_with_a_frame(self) -> None:
+        whole = replay(self.recorded, str(PROGRAM), str(FONTS), Progress(), True)
+        self.assertEqual(len(self.scripts()), 1)
+        parts = self.replayed(True)
+        *ended, _ = self.scripts()
+        self.assertGreaterEqual(len(ended), 1)
+        for script in ended:
+            self.assertTrue(self.beam_after(script).startswith("0 char 0 dot 0 "), script)
+        for done in (whole, parts):
+            self.assertTrue(done.checked.agrees)
+            self.assertEqual(done.written.last_cycle, MANY + len(SHAPE))
+        # An advance that is cut in two is two steps.
+        more = parts.checked.steps - whole.checked.steps
+        self.assertTrue(0 <= more <= len(ended), more)
+
+    def refusal(self, *more: TraceStep) -> str:
+        """What is told where these steps stand behind those that rebuild the state."""
+
+        def wrong(told: Told) -> Iterator[TraceStep]:
+            yield from rebuilt_as_told(told)
+            yield from more
+
+        with mock.patch.object(replaying, "rebuilt_as_told", wrong):
+            return refused(self.replayed, True)
+
+    def test_a_state_that_is_not_rebuilt(self) -> None:
+        told = f"{self.recorded}/script-2.bin: the state before its first cycle isn't rebuilt"
+        # Another place of the beam; the DAC's mask, an index, and the latches are others.
+        for more in (
+            TraceStep(ADVANCE, 1),
+            TraceStep(OUT, 0x3C6, 0x12),
+            TraceStep(OUT, 0x3C4, 0x07),
+            TraceStep(GET, 0xA0000),
+        ):
+            self.assertEqual(self.refusal(more), told, more)
+
+    def test_no_file_is_left_but_those_of_the_recording(self) -> None:
+        self.replayed(True)
+        names = {path.name.rstrip("0123456789") for path in self.recorded.iterdir()}
+        self.assertFalse([name for name in names if name.startswith(".")], names)
+
+
+class OfQemu(Long):
+    """Recordings of qemu, whose state is followed by a model."""
+
+    def setUp(self) -> None:
+        super().setUp()
+        front = [qemu("write 3c2 67 1"), qemu("write 3ce 506 2"), qemu("write 3c4 f02 2")]
+        puts = (f"write {0xA0000 + at:x} {at % 255 + 1:x} 1" for at in range(0, 2000, 2))
+        self.keep(b"".join([*front, *(qemu(one, "vga-lowmem") for one in puts)]))
+
+    def test_no_room_for_a_step(self) -> None:
+        told = refused(self.replayed, False, 400)
+        wanted = "no step has room beside those that rebuild the state"
+        self.assertEqual(told, f"{self.recorded}/report-2.txt: {wanted}")
+
+    def test_steps_that_are_refused_rebuild_no_state(self) -> None:
+        def wrong(state: State) -> list[TraceStep]:
+            return [*rebuilt(state), TraceStep(IN, 0x3C7)]
+
+        with mock.patch.object(replaying, "rebuilt", wrong):
+            told = refused(self.replayed, False, 3000).splitlines()
+        front = f"{self.recorded}/report-2.txt: the state before its first cycle isn't rebuilt:"
+        self.assertEqual(told[0], front)
+        self.assertRegex(told[1], r"^[0-9,]+ steps, 1 refused, [0-9,]+ reads? answered, 0 differ$")
+        self.assertIn("E2 NotInProfile: in port 3C7 (first at step", told[2])
+
+
+class Notes(Folder):
+    def test_polls_of_a_frame(self) -> None:
+        def told(count: int, **more: Any) -> list[str]:
+            note = Note("qemu", frame_polls=count, **more)
+            return [*told_of_beam(note, Path("FOLDER"))]
+
+        # A thousand of them wait for the beam.
+        hold(self, told, ((0, []), (999, [])))
+        front = "it reads input status 1 up to 1,000 times within a frame: what changes within a"
+        self.assertEqual([line[: len(front)] for line in told(1000)], [front])
+        self.assertIn("is lost. Record with --beam", told(1000)[0])
+        self.assertIn("`vga-trace pictures FOLDER --beam` draws it", told(1000, has_beam=True)[0])
+
+    def test_a_note_is_read_as_it_was_written(self) -> None:
+        note = Note("page", ["a.com"], "", "", [0.5, 2], 3, "all was done", True, 7, {"a": "b"})
+        note.write(self.folder)
+        self.assertEqual(note_of(self.folder), note)
+        text = (self.folder / "recording.json").read_text("ascii")
+        for was, now in (
+            ('"version": 1', '"version": 2'),
+            ('"machine": "page"', '"machine": "x"'),
+            ('"ended": "all was done"', '"ended": 5'),
+            ('"refusals": 3', '"refusals": "x"'),
+            ('"software": {', '"software": 0, "x": {'),
+            ('"has_beam"', '"no_member"'),
+            ("0.5", '"x"'),
+        ):
+            self.assertEqual(text.count(was), 1, was)
+            self.write("recording.json", text.replace(was, now))
+            told = refused(note_of, self.folder)
+            wanted = "it is no note of a recording, or of another version"
+            self.assertEqual(told, f"{self.folder}/recording.json: {wanted}", now)
+        self.write("recording.json", json.dumps(json.loads(text)))
+        self.assertEqual(note_of(self.folder), note)
