@@ -7,11 +7,15 @@ import os
 from pathlib import Path
 from unittest import mock
 
+from zaklimot_tools.explain.registers import Registers
 from zaklimot_tools.trace import command
+from zaklimot_tools.trace.comparing import _drawn
+from zaklimot_tools.trace.step import ADVANCE, TraceStep
+from zaklimot_tools.trace.walking import FRAME_STEP, Question
 
 from .test_seeing import Seen
 from .tools import Folder, hold, hold_undone, png_rows, ppm, report
-from .tracing import BEGIN, run
+from .tracing import BEGIN, registers, run
 
 
 MODE = "0 int 3 0 0 0\n"
@@ -73,6 +77,15 @@ class Differences(Seen):
         for still, told in (("0.6", "the first is equal"), ("0.4", "the first 2 are equal")):
             done = self.compare(STANDING, shorter, "--still", still)
             self.assertEqual(done, (0, [ALIKE, f"pictures: {told}{NO_MORE}"]))
+
+    def test_after_each_picture_all_blinks_as_before(self) -> None:
+        # 32 frames, the drawn one among them, after which the cursor and blinking text are alike.
+        known = Registers()
+        self.assertEqual([*_drawn(known, "x")][0], Question(FRAME_STEP, "x"))
+        for step in registers(0x67, 0):
+            known.take(step.step)
+        _, *rest = _drawn(known, "x")
+        self.assertEqual(rest, [TraceStep(ADVANCE, 31 * 900 * 449)])
 
     def test_more_pictures_and_another_size(self) -> None:
         out = self.folder / "differing.png"

@@ -77,6 +77,8 @@ class Passing(unittest.TestCase):
                 listed(b"- w p 3C2 67 1\n", **wanted)
             told = ["1 cycle has no time, and comes without a pause"]
             self.assertEqual(warned(BEGIN + b"- r p 3DA 0 1\n", **wanted), told)
+            told = ["1,234 cycles have no time, and come without a pause"]
+            self.assertEqual(warned(BEGIN + 1234 * b"- r p 3DA 0 1\n", **wanted), told)
 
     def test_a_frame_before_each_change_of_the_start_address(self) -> None:
         high, low, draw = (

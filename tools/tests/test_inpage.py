@@ -388,6 +388,10 @@ class WithoutNode(Folder):
                         self, run("record", into, "--in-page", file, "--vga", program), told
                     )
                 self.assertFalse(into.exists())
+        for version in ("v18.0.0", "v22.1.0"):
+            self.program("bin/node", f"#!/bin/sh\necho {version}\n")
+            with mock.patch.dict(os.environ, PATH=str(self.folder / "bin")):
+                inpage.check_node()
         with mock.patch.object(inpage, "SOURCES", self.folder / "none"):
             hold_undone(
                 self,

@@ -162,6 +162,10 @@ class Kept(Folder):
         dots = bytes(byte ^ 0xFF for byte in rows[0][:3]) + b"".join(rows)[3:]
         self.write("recorded/screen-1.ppm", b"P6 %d %d 255\n%b" % (width, height, dots))
         self.keep()
+        # It is red, and alone so.
+        shown = png_rows((self.recorded / "differing-1.png").read_bytes())
+        self.assertEqual((shown[:2], shown[2][0][:3]), ((width, height), b"\xff  "))
+        self.assertNotIn(b"\xff  ", b"".join(shown[2])[3:])
         with zipfile.ZipFile(self.zip) as archive:
             self.assertEqual(archive.namelist(), ["differing-1.png", *NAMES])
         status, output, _ = self.judge(self.zip)
@@ -170,6 +174,12 @@ class Kept(Folder):
         differing = "1 of 288,000 dots differ, in columns 0 to 0 and rows 0 to 0"
         self.assertTrue([line for line in told if line.endswith(differing)], output)
         self.assertEqual(told[-1], "all is as it was kept: the verdict and 1 picture")
+
+    def test_a_recording_whose_computer_has_stopped(self) -> None:
+        whole = self.judge(self.recorded)
+        # What stands before the cut counts; here the last bytes are those of the check alone.
+        self.write("recorded/trace.gz", packed()[:-8])
+        self.assertEqual(self.judge(self.recorded), whole)
 
     def test_one_with_a_comment(self) -> None:
         self.keep()

@@ -23,24 +23,25 @@ from zaklimot_tools.trace.told import Told
 from .tools import PROGRAM, Folder, hold, refused, run_program, want_program
 from .tracing import qemu
 
-# The registers of text of 720 by 400 dots; then a byte is written all the 997 dots. Seven frames
-# pass, and the last of them is kept.
+# The registers of text of 720 by 400 dots. Then a byte is written each time that so many dots have
+# passed: those of a line, with which a frame ends too, or others. The seventh frame is kept.
 WORDS = ("3C4 0001", "3D4 5F00", "3D4 BF06", "3D4 1F07", "3D4 4F01", "3D4 8F12", "3C4 0F02")
 SHAPE = ("3C2 67 1", *(f"{word} 2" for word in (*WORDS, "3CE FF08")), "3C0 20 1")
-DOTS = 997
-MANY = 3000
-FRAME = 900 * 449
+LINE, OTHERS = 900, 997
+MANY = 3200
+FRAME = 449 * LINE
 # So many bytes has a script of what is traced at most, and its last frame.
 OF_TRACE, OF_FRAME = 20_000, 7_000
 
 
-def lines() -> Iterator[str]:
-    """The lines of the trace."""
-    yield from (f"0+0 w p {one}" for one in SHAPE)
+def traced(dots: int) -> bytes:
+    """The trace, in which so many dots pass before each write."""
+    lines = [f"0+0 w p {one}" for one in SHAPE]
     for at in range(MANY):
-        yield f"{at}+{DOTS} w m {0xA0000 + at % 500:X} {at % 251 + 1:02X} 1"
-        if at == 6 * FRAME // DOTS:
-            yield f"{at}+{7 * FRAME - (at + 1) * DOTS} frame"
+        lines.append(f"{at}+{dots} w m {0xA0000 + at % 500:X} {at % 251 + 1:02X} 1")
+        if at == 6 * FRAME // dots:
+            lines.append(f"{at}+{7 * FRAME - (at + 1) * dots} frame")
+    return "".join(f"{line}\n" for line in lines).encode()
 
 
 class Long(Folder):
@@ -70,7 +71,7 @@ class OfThePage(Long):
 
     def setUp(self) -> None:
         super().setUp()
-        self.keep("".join(f"{line}\n" for line in lines()).encode())
+        self.keep(traced(OTHERS))
 
     def scripts(self) -> list[Path]:
         return sorted(self.recorded.glob("script*.bin"), key=lambda path: (len(path.name), path))
@@ -83,19 +84,23 @@ class OfThePage(Long):
         return told.partition(" line ")[2]
 
     def test_each_script_but_the_last_ends_with_a_frame(self) -> None:
-        whole = replay(self.recorded, str(PROGRAM), str(FONTS), Progress(), True)
-        self.assertEqual(len(self.scripts()), 1)
-        parts = self.replayed(True)
-        *ended, _ = self.scripts()
-        self.assertGreaterEqual(len(ended), 1)
-        for script in ended:
-            self.assertTrue(self.beam_after(script).startswith("0 char 0 dot 0 "), script)
-        for done in (whole, parts):
-            self.assertTrue(done.checked.agrees)
-            self.assertEqual(done.written.last_cycle, MANY + len(SHAPE))
-        # An advance that is cut in two is two steps.
-        more = parts.checked.steps - whole.checked.steps
-        self.assertTrue(0 <= more <= len(ended), more)
+        for dots in (LINE, OTHERS):
+            for path in self.scripts():
+                path.unlink()
+            self.keep(traced(dots))
+            whole = replay(self.recorded, str(PROGRAM), str(FONTS), Progress(), True)
+            self.assertEqual(len(self.scripts()), 1)
+            parts = self.replayed(True)
+            *ended, _ = self.scripts()
+            self.assertGreaterEqual(len(ended), 1)
+            for script in ended:
+                self.assertTrue(self.beam_after(script).startswith("0 char 0 dot 0 "), script)
+            for done in (whole, parts):
+                self.assertTrue(done.checked.agrees)
+                self.assertEqual(done.written.last_cycle, MANY + len(SHAPE))
+            # An advance that is cut in two is two steps.
+            more = parts.checked.steps - whole.checked.steps
+            self.assertEqual(more, 0 if dots == LINE else len(ended))
 
     def refusal(self, *more: TraceStep) -> str:
         """What is told where these steps stand behind those that rebuild the state."""
@@ -173,7 +178,7 @@ class Notes(Folder):
             ('"machine": "page"', '"machine": "x"'),
             ('"ended": "all was done"', '"ended": 5'),
             ('"refusals": 3', '"refusals": "x"'),
-            ('"software": {', '"software": 0, "x": {'),
+            ('"software": {\n  "a": "b"\n }', '"software": ["a", "b"]'),
             ('"has_beam"', '"no_member"'),
             ("0.5", '"x"'),
         ):
