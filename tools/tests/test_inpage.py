@@ -316,7 +316,12 @@ class Recorded(Folder):
             (("--in-page", file, "--chain-4"), "--chain-4 is for qemu, and not for --in-page"),
             (("--in-page", file, "--card", "VGA"), "--card is for qemu"),
             (("--in-page", file, "--", "-cdrom", "x"), "what stands behind `--` is for qemu"),
+            (("--in-page", file, "--polls", "first"), "--polls is for qemu, and not for"),
+            (("--in-page", file, "--beam"), "--beam is for qemu, and not for --in-page"),
             (("--speed", "286", "--", "-cdrom", "x"), "--speed is for --in-page alone"),
+            (("--rom", file, "--", "-cdrom", "x"), "--rom is for --in-page alone"),
+            (("--start", "a", "--", "-cdrom", "x"), "--start is for --in-page alone"),
+            (("--in-page", file, "--speed", "486"), "invalid choice: '486'"),
             (("--in-page", file, "--key", "power"), "`power` is no key of the page's machine"),
             ((), "qemu needs words after `--`"),
         ):

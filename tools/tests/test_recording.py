@@ -469,7 +469,16 @@ class Recorded(Folder):
                 if note is not None:
                     self.write(f"{name}/recording.json", note)
                 hold_undone(self, run("record", self.folder / name, "--again", *program), told)
-        for words in (("--key", "ret"), ("--chain-4",), ("--", "-cdrom", "x")):
+        for words in (
+            ("--key", "ret"),
+            ("--screen", "1"),
+            ("--in-page", program[1]),
+            ("--chain-4",),
+            ("--beam",),
+            ("--polls", "keep"),
+            ("--card", "VGA"),
+            ("--", "-cdrom", "x"),
+        ):
             given = ("record", self.folder, "--again", *words)
             hold_undone(self, run(*given), "takes --vga and --fonts alone")
 

@@ -404,6 +404,22 @@ class Keeping(Folder):
             into.close()
         self.assertEqual(keeper.frame_polls, 3)
 
+    def test_the_last_screen_has_as_much_room_again(self) -> None:
+        full = "its trace has 10 bytes, as they are packed"
+        for kept, told, is_lost in (
+            (9, "", False),
+            (10, full, False),
+            (19, full, False),
+            (20, full, True),
+        ):
+            into = mock.Mock(kept=kept)
+            with open(self.write("log", "line\n"), "rb") as log:
+                keeper = Keeper(log, into)
+                with mock.patch.object(keeping, "MOST_KEPT", 10):
+                    keeper.run()
+            self.assertEqual((keeper.full, keeper.is_lost), (told, is_lost), kept)
+            into.write.assert_called_once_with(b"line\n")
+
     def test_how_long_a_frame_is(self) -> None:
         """A sixtieth of a second, from its first line on, at either port."""
         line = (

@@ -8,7 +8,7 @@ from pathlib import Path
 from typing import Any, Iterator
 from unittest import mock
 
-from zaklimot.format import Step, encoded
+from zaklimot.format import Block, Step, decode, encoded
 from zaklimot_tools.core.progress import Progress
 from zaklimot_tools.script.words import FONTS
 from zaklimot_tools.trace import converting, replaying
@@ -65,6 +65,20 @@ class Long(Folder):
         ):
             return replay(self.recorded, str(PROGRAM), str(FONTS), Progress(), is_own)
 
+    def hold_figures(self, done: Replay) -> None:
+        """Holds the figures that are told to the scripts."""
+        paths = list(self.recorded.glob("script*.bin"))
+        scripts = [decode(path.read_bytes()) for path in paths]
+        size = sum(path.stat().st_size for path in paths)
+        count = sum(1 for script in scripts for _ in script.steps())
+        blocks = sum(isinstance(one, Block) for script in scripts for one in script.items)
+        line = done.written.line(done.listing)
+        told = f"{done.listing.trace.count:,} cycles, {count:,} steps, {size:,} bytes"
+        self.assertEqual(line[: len(told)], told)
+        self.assertEqual(done.written.blocks, blocks)
+        self.assertEqual("steps rebuild the state" in line, len(paths) > 1)
+        self.assertEqual(done.checked.steps + done.listing.rebuilding, count)
+
 
 class OfThePage(Long):
     """Recordings of the page's machine, whose scripts have the exact time."""
@@ -95,6 +109,7 @@ class OfThePage(Long):
             self.assertGreaterEqual(len(ended), 1)
             for script in ended:
                 self.assertTrue(self.beam_after(script).startswith("0 char 0 dot 0 "), script)
+            self.hold_figures(parts)
             for done in (whole, parts):
                 self.assertTrue(done.checked.agrees)
                 self.assertEqual(done.written.last_cycle, MANY + len(SHAPE))
@@ -137,6 +152,14 @@ class OfQemu(Long):
         front = [qemu("write 3c2 67 1"), qemu("write 3ce 506 2"), qemu("write 3c4 f02 2")]
         puts = (f"write {0xA0000 + at:x} {at % 255 + 1:x} 1" for at in range(0, 2000, 2))
         self.keep(b"".join([*front, *(qemu(one, "vga-lowmem") for one in puts)]))
+
+    def test_the_figures_of_several_scripts(self) -> None:
+        for of_trace in (2000, 100_000):
+            for path in self.recorded.glob("*.bin"):
+                path.unlink()
+            done = self.replayed(False, of_trace)
+            self.assertTrue(done.checked.agrees)
+            self.hold_figures(done)
 
     def test_no_room_for_a_step(self) -> None:
         told = refused(self.replayed, False, 400)
