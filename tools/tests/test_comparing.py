@@ -50,6 +50,16 @@ class Differences(Seen):
         told = [ALIKE, "pictures: picture 1 differs", "  one: 720x400, at 0.001"]
         self.assertEqual((status, lines[:3]), (1, told))
 
+    def test_indexes_are_no_registers(self) -> None:
+        # One chooses a register twice, or another one before it.
+        front = MODE + "1 r p 3DA 0 1\n"
+        once = "2 w p 3C0 10 1\n3 w p 3C0 4 1\n4 w p 3D4 C 1\n5 w p 3D5 1 1\n"
+        twice = "2 w p 3C0 11 1\n2 r p 3DA 0 1\n" + once.replace("4 w p", "4 w p 3D4 E 1\n4 w p")
+        status, lines = self.compare(front + once, front + twice)
+        self.assertEqual(
+            (status, lines[0]), (0, f"register writes: the first 3 are equal{NO_MORE}")
+        )
+
     def test_names_of_ports_and_calls(self) -> None:
         # The first difference ends it, so each name takes a comparison.
         for words, told in (

@@ -7,7 +7,8 @@ import unittest
 from pathlib import Path
 
 from zaklimot_tools.script.words import FONTS
-from zaklimot_tools.trace.cells import code_page, text_of
+from zaklimot_tools.trace.cells import code_page, look_of, text_of
+from zaklimot_tools.trace.colourfiles import plane_pictures, starts_of_pages
 from zaklimot_tools.trace.finding import found_in
 from zaklimot_tools.trace.state import State
 
@@ -83,6 +84,21 @@ class Forms(Seen):
         at = page.index("<pre>") + 1
         self.assertEqual(page[at], "".join(spans) + f"<span {style(grey, 'D' + 76 * ' ')}")
         self.assertEqual(page[at + 25 :], ["</pre>", "</body>", "</html>"])
+
+    def test_which_characters_are_underlined(self) -> None:
+        state = State()
+        underlined = {0x01, 0x09, 0x81, 0x89}
+        for control, scan, wanted in (
+            (0x02, 0x0F, underlined),
+            (0x0A, 0x00, underlined),
+            # Not below the last line of a character, and not in colour.
+            (0x02, 0x10, set()),
+            (0x00, 0x0F, set()),
+        ):
+            state.crtc.registers[0x09], state.crtc.registers[0x14] = 0x4F, scan
+            state.attr.registers[0x10] = control
+            found = {code for code in range(256) if look_of(state, code).is_underlined}
+            self.assertEqual(found, wanted, (control, scan))
 
     def test_a_bright_background_where_nothing_blinks(self) -> None:
         look = "\x1b[0;38;2;255;85;85;48;2;85;85;255mA\x1b"
@@ -223,6 +239,36 @@ class Rows(unittest.TestCase):
         self.assertEqual(rows[:3], [40 * "0", 40 * "0", 40 * "1"])
 
 
+class Planes(unittest.TestCase):
+    def test_the_mask_counts_in_256_colours(self) -> None:
+        state = State()
+        state.gfx.registers[5], state.gfx.registers[6] = 0x40, 0x05
+        state.dac.components[3 * 5 : 3 * 6] = [1, 2, 3]
+        state.memory.words[0] = 0x15
+        for mask, wanted in ((0x0F, b"\1\2\3"), (0xFF, b"\0\0\0")):
+            state.dac.mask = mask
+            self.assertEqual(next(plane_pictures(state)).row(0)[:3], wanted)
+
+    def test_rows_where_no_offset_is_set(self) -> None:
+        state = State()
+        state.gfx.registers[6] = 0x05
+        sizes = [(one.width, one.height) for one in plane_pictures(state)]
+        self.assertEqual(sizes, 4 * [(8 * 80, -(-65536 // 80))])
+
+    def test_so_many_pages_at_most(self) -> None:
+        # A row of text of 40 columns, of which memory has 256.
+        state = State()
+        state.gfx.registers[6] = 0x0E
+        for index, value in {0x06: 0xFF, 0x07: 0x01, 0x09: 0x4F, 0x12: 0x0F, 0x13: 20}.items():
+            state.crtc.registers[index] = value
+        starts = list(starts_of_pages(state))
+        self.assertEqual(len(starts), 64)
+        self.assertEqual({after - at for at, after in zip(starts, starts[1:])}, {64})
+        # The one that is shown is among them.
+        state.crtc.registers[0x0C] = 0x30
+        self.assertEqual(list(starts_of_pages(state)), [*starts, 0x3000])
+
+
 class Finding(Seen):
     def test_where_a_text_stands(self) -> None:
         hold(
@@ -341,14 +387,6 @@ class Files(Seen):
         self.assertEqual(shown[:2], (1440, 800))
         self.assertEqual(png_rows((pages / "page-0107.png").read_bytes()), shown)
         self.assertNotEqual(png_rows((pages / "page-0000.png").read_bytes()), shown)
-
-    def test_text_in_a_file(self) -> None:
-        out = self.folder / "out.txt"
-        for form in ("plain", "ansi", "html"):
-            words = ("--at", "1.5", "--form", form)
-            self.assertEqual(self.done("text", self.calls, out, *words), "")
-            self.assertEqual(out.read_bytes(), self.bytes_of("text", self.calls, *words))
-            self.assertIn("\u263a".encode(), out.read_bytes())
 
     def test_a_picture_on_standard_output(self) -> None:
         out = self.folder / "out.png"

@@ -112,7 +112,7 @@ class OfThePage(Long):
             self.hold_figures(parts)
             for done in (whole, parts):
                 self.assertTrue(done.checked.agrees)
-                self.assertEqual(done.written.last_cycle, MANY + len(SHAPE))
+                self.assertEqual(done.listing.trace.count, MANY + len(SHAPE))
             # An advance that is cut in two is two steps.
             more = parts.checked.steps - whole.checked.steps
             self.assertEqual(more, 0 if dots == LINE else len(ended))
@@ -151,7 +151,10 @@ class OfQemu(Long):
         super().setUp()
         front = [qemu("write 3c2 67 1"), qemu("write 3ce 506 2"), qemu("write 3c4 f02 2")]
         puts = (f"write {0xA0000 + at:x} {at % 255 + 1:x} 1" for at in range(0, 2000, 2))
-        self.keep(b"".join([*front, *(qemu(one, "vga-lowmem") for one in puts)]))
+        lines = [qemu(one, "vga-lowmem") for one in puts]
+        # Rows that become blocks stand among them.
+        rows = [line * (12 if at % 5 == 4 else 1) for at, line in enumerate(lines)]
+        self.keep(b"".join([*front, *rows]))
 
     def test_the_figures_of_several_scripts(self) -> None:
         for of_trace in (2000, 100_000):

@@ -100,11 +100,13 @@ class Text(Seen):
             with self.subTest(words):
                 hold_undone(self, self.run_command("text", TYPED, *words), told)
         untimed = self.write("untimed", b"- w p 3C2 67 1\n")
-        for words, told in (
-            (["--at", "1"], "its cycles have no times"),
-            (["--cycle", "2"], "it has 1 cycle, and no cycle 2"),
+        one = self.write("one", b"0 int 3 0 0 0\n")
+        for trace, words, told in (
+            (untimed, ["--at", "1"], "its cycles have no times"),
+            (untimed, ["--cycle", "2"], "it has 1 cycle, and no cycle 2"),
+            (one, ["--picture", "2"], "it has 1 picture, and no picture 2"),
         ):
-            hold_undone(self, self.run_command("text", untimed, *words), told)
+            hold_undone(self, self.run_command("text", trace, *words), told)
         hold_undone(
             self,
             self.run_command("text", "-", "--picture", "1"),

@@ -435,8 +435,6 @@ class Written:
     def drop(self, row: Repeated, body: bytes) -> None:
         """Takes back what was counted of a row."""
         self._count(row, body, -1)
-        # A kind of which there is none isn't told.
-        self.kinds = +self.kinds
 
     def add(self, other: "Written") -> None:
         """Counts what another script has as well."""
@@ -444,7 +442,6 @@ class Written:
         self.blocks += other.blocks
         self.script_bytes += other.script_bytes
         self.text_bytes += other.text_bytes
-        self.last_cycle = other.last_cycle
 
     def _count(self, row: Repeated, body: bytes, times: int) -> None:
         for opcode, count_of in Counter(map(OPCODE_OF, row.steps)).items():

@@ -118,7 +118,6 @@ def _add_up_to_end(
     for step in _up_to_end(ended, steps, left):
         ended.steps.append(step)
         stream.write(written.row(Repeated([step], [step.data()], 1, step.cycle)))
-        written.last_cycle = step.cycle or written.last_cycle
         if not written.fits:
             return
 

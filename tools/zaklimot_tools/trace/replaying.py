@@ -341,7 +341,6 @@ class Replay:
     def take_script(self, written: Written, rebuilding: int, number: int) -> None:
         """Adds the figures of a script, of which so many steps rebuild a state."""
         self.listing.rebuilding += rebuilding
-        written.last_cycle = written.last_cycle or self.written.last_cycle
         if number == 1:
             self.written = written
         else:
