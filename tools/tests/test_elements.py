@@ -326,29 +326,33 @@ class Machines(Elements):
 
     def test_a_report_that_lacks_an_answer_or_has_more_before_it(self) -> None:
         path = self.elements("some.json", GOOD)
-        least = len(reached(GOOD)) + 1
-        answers = ["ok"] * least + self.read()
-        for given, wanted in (
-            (answers, (0, "1 element: 1 agree, 0 differ")),
-            (["00", "ok", *answers], (0, "1 element: 1 agree, 0 differ")),
-            # A machine that refuses a read has no byte there.
-            ([*answers[:-1], "E1 NotDecoded"], (1, "1 element: 0 agree, 1 differ")),
-            (
-                ["E1 NotDecoded" if one == "07" else one for one in answers],
-                (1, "0 agree, 1 differ"),
-            ),
-        ):
+        answers = self.answers(GOOD)
+        for given in (answers, ["00", "ok", *answers]):
             self.report("some/000000.report", *given)
-            status, output, said = steps("reports", self.folder, path)
-            self.assertEqual((status, said), (wanted[0], ""), output)
-            self.assertIn(wanted[1], output)
+            done = steps("reports", self.folder, path)
+            self.assertEqual((done[0], done[2]), (0, ""), done[1])
+            self.assertIn("1 element: 1 agree, 0 differ\n", done[1])
         for count in (len(answers) - 1, 1, 0):
             self.report("some/000000.report", *answers[:count])
             done = steps("reports", self.folder, path)
             number = f"{count} answer{'s' * (count != 1)}"
             hold_undone(self, done, f"it has {number}, and its script has {len(answers)} steps$")
 
-    def read(self) -> list[str]:
-        """The answers to the cycles that read the state after the good element's step."""
-        lines = readback_lines(GOOD)
-        return [line.partition(" ; = ")[2] or "ok" for line in lines]
+    def test_what_a_machine_refuses_is_no_byte(self) -> None:
+        # It isn't 00 either.
+        element = {**GOOD, FINAL: {"misc": 3, "planes": [[5, 7, 0, 7, 7]]}}
+        path = self.elements("some.json", element)
+        answers = self.answers(element)
+        self.assertEqual((answers.count("07"), answers.count("00")), (3, 1))
+        for byte, told in (("00", "[7, -1, 7, 7], not [7, 0, 7, 7]"), ("03", "misc: -1, not 3")):
+            given = ["E1 NotDecoded" if one == byte else one for one in answers]
+            self.report("some/000000.report", *given)
+            status, output, _ = steps("reports", self.folder, path)
+            self.assertEqual(status, 1)
+            self.assertIn(told, output)
+
+    @staticmethod
+    def answers(element: Element) -> list[str]:
+        """The answers to an element's script, whose step writes, and which reads its state."""
+        read = [line.partition(" ; = ")[2] or "ok" for line in readback_lines(element)]
+        return ["ok"] * (len(reached(element)) + 1) + read

@@ -3,10 +3,12 @@
 from __future__ import annotations
 
 import gzip
+import io
 import json
 import os
 import sys
 import tempfile
+import time
 import unittest
 from collections import Counter
 from hashlib import sha256
@@ -20,6 +22,7 @@ from zaklimot_tools.dev.emulators.traces import row as row_of
 from zaklimot_tools.trace import converting, keeper as keeping, recording
 from zaklimot_tools.trace.converting import Checked, Checking, Written
 from zaklimot_tools.trace.asked import Deed
+from zaklimot_tools.trace.note import Note, note_of
 from zaklimot_tools.trace.parts import Parts
 from zaklimot_tools.trace.recording import PHASES, QemuMachine, Session
 from zaklimot_tools.trace.replaying import Replay
@@ -555,6 +558,30 @@ class Recorded(Folder):
         self.assertTrue(session.is_due(Deed()))
         keeper.size = 0
         self.assertFalse(session.is_due(Deed()))
+
+    def test_a_time_is_that_since_power_on(self) -> None:
+        now = time.monotonic()
+        keeper = mock.Mock(size=0, last=now)
+        given = (QemuMachine(()), mock.Mock(), keeper, self.folder, mock.Mock())
+        # Whatever was done since, and though nothing was logged.
+        session = Session(*given, began=now - 30, acted=now)
+        self.assertTrue(session.is_due(Deed(20.0)))
+        self.assertFalse(session.is_due(Deed(600.0, ("ret",))))
+
+    def test_a_screen_is_noted_once_it_is_taken(self) -> None:
+        session = Session(
+            QemuMachine(()), mock.Mock(), mock.Mock(), self.folder, mock.Mock(), Note("qemu")
+        )
+        log, do = io.BytesIO(), mock.Mock()
+        with mock.patch.object(recording, "PHASE", 0):
+            for count in (1, 2):
+                session._take_screen(do, log)
+                self.assertEqual(len(note_of(self.folder).screens), count)
+        # A power cut leaves what was noted so far, and each dump has a file of its own.
+        self.assertEqual(log.getvalue(), 2 * PHASES * (SCREEN + b"\n"))
+        dumps = [one.kwargs["filename"] for one in do.mock_calls if one.args == ("screendump",)]
+        names = [f".dump.{number}.ppm" for number in range(2 * PHASES)]
+        self.assertEqual([Path(name).name for name in dumps], names)
 
     def test_what_is_told_of_an_early_end(self) -> None:
         late = "before it was time for {}: the screen is taken now, and the rest left out".format

@@ -3,6 +3,7 @@ doesn't rebuild the state, or has no room, and the verdict on all of them."""
 
 from __future__ import annotations
 
+import contextlib
 import json
 from pathlib import Path
 from typing import Any, Iterator
@@ -12,7 +13,7 @@ from zaklimot.format import Block, Step, decode, encoded
 from zaklimot_tools.core.progress import Progress
 from zaklimot_tools.script.words import FONTS
 from zaklimot_tools.trace import converting, replaying
-from zaklimot_tools.trace.note import Note, note_of, told_of_beam
+from zaklimot_tools.trace.note import Note, kept_parts, note_of, told_of_beam
 from zaklimot_tools.trace.parts import Parts
 from zaklimot_tools.trace.rebuilding import rebuilt_as_told
 from zaklimot_tools.trace.replaying import Replay, replay
@@ -193,6 +194,40 @@ class Notes(Folder):
         self.assertEqual([line[: len(front)] for line in told(1000)], [front])
         self.assertIn("is lost. Record with --beam", told(1000)[0])
         self.assertIn("`vga-trace pictures FOLDER --beam` draws it", told(1000, has_beam=True)[0])
+
+    def test_why_a_recording_ended(self) -> None:
+        """It was ended, unless it is known why; a trace that can't be kept is told in any case."""
+        full = OSError(28, "No space left on device")
+        lost = "its trace can't be kept: No space left on device"
+        for ended, error, closing, wanted in (
+            ("", None, None, ""),
+            ("all was done", None, None, "all was done"),
+            ("", ValueError(), None, "it was ended"),
+            ("it is full", ValueError(), None, "it is full"),
+            ("all was done", None, full, lost),
+            ("", ValueError(), full, lost),
+        ):
+            note = Note("qemu", ["-x"], screens=[1.0])
+            with (
+                contextlib.suppress(ValueError),
+                mock.patch.object(Parts, "close", side_effect=closing),
+                kept_parts(self.folder, note) as parts,
+            ):
+                parts.write(b"line\n")
+                note.ended = ended
+                if error is not None:
+                    raise error
+            self.assertEqual(note_of(self.folder), note)
+            self.assertEqual(note.ended, wanted)
+
+    def test_what_nothing_was_recorded_of_is_gone(self) -> None:
+        for screens in range(2):
+            note = Note("qemu")
+            with contextlib.suppress(ValueError), kept_parts(self.folder, note):
+                self.assertEqual(self.names(), ["recording.json", "trace.gz"])
+                note.screens += screens * [0.5]
+                raise ValueError
+            self.assertEqual(self.names(), ["recording.json", "trace.gz"] if screens else [])
 
     def test_a_note_is_read_as_it_was_written(self) -> None:
         note = Note("page", ["a.com"], "", "", [0.5, 2], 3, "all was done", True, 7, {"a": "b"})
