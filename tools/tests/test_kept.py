@@ -260,6 +260,22 @@ class Kept(Folder):
         """What is told of a ZIP that can't be unpacked."""
         return refused(lambda: unpacked(str(path)).__enter__())
 
+    def test_no_file_of_a_recording_is_written_over(self) -> None:
+        self.judge(self.recorded)
+        link = self.folder / "link"
+        link.symlink_to(self.recorded / "trace.gz")
+        before = {path.name: path.read_bytes() for path in self.recorded.iterdir()}
+        for name in ("trace.gz", "recording.json", "picture-1.png"):
+            out = self.recorded / name
+            told = f"^vga-trace: {out}: it is read as {out}, so it isn't written$"
+            hold_undone(self, self.run_command("keep", self.recorded, out), told)
+        hold_undone(self, self.run_command("keep", self.recorded, link), "so it isn't written$")
+        after = {path.name: path.read_bytes() for path in self.recorded.iterdir()}
+        self.assertEqual(after, before)
+        # Another file of the folder is none of a recording's.
+        done = self.run_command("keep", self.recorded, self.recorded / "kept.zip")
+        self.assertEqual((done[0], done[2]), (0, ""))
+
     def test_one_that_is_larger_than_a_zip_may_be(self) -> None:
         self.keep()
         listed = self.zip.read_bytes().index(b"PK\1\2")

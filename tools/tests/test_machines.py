@@ -145,6 +145,32 @@ class Differences(Folder):
             ),
         )
 
+    def test_places_come_in_any_order(self) -> None:
+        final: Element = {
+            "planes": [[5, 1, 2, 3, 4], [6, 0, 0, 0, 9], [70, 7, 7, 7, 7]],
+            "colours": [[0, 1, 2, 3], [9, 3, 2, 1]],
+        }
+        turned = {name: places[::-1] for name, places in final.items()}
+        # A byte that isn't listed is 0, and an entry of the DAC may have any colour.
+        more = {"planes": [[80, 0, 0, 0, 0], *turned["planes"]], "colours": final["colours"]}
+        more["colours"] = [[200, 1, 1, 1], *more["colours"]]
+        hold(
+            self,
+            lambda given: list(differences({**GOOD, FINAL: final}, {FINAL: given})),
+            (
+                (turned, []),
+                (more, []),
+                (
+                    {**more, "planes": [[80, 0, 0, 5, 0], *turned["planes"]]},
+                    ["planes 80: [0, 0, 5, 0], not [0, 0, 0, 0]"],
+                ),
+                (
+                    {"planes": [[70, 7, 7, 7, 8], *turned["planes"][1:]]},
+                    ["planes 70: [7, 7, 7, 8], not [7, 7, 7, 7]"],
+                ),
+            ),
+        )
+
     def test_parts_of_a_state(self) -> None:
         beam = dict.fromkeys(BEAM, 4)
         final: Element = {"misc": 3, "beam": beam, "seq": [1, 2, 3], "colours": [[7, 1, 2, 3]]}

@@ -238,6 +238,14 @@ class Walked(Folder):
             refused(list, walk.answers([TraceStep(1, 0x3C2, 0), TraceStep(11)])), "after 1 step:"
         )
 
+    def test_a_program_that_fails_at_its_end(self) -> None:
+        told = self.report("told", "ok", "ok")
+        program = self.program("vga", f"#!/bin/sh\ncat {told}\necho oh >&2\nexit 3\n")
+        walk = Walk(program, str(FONTS), Progress())
+        steps = [TraceStep(1, 0x3C2, 0), TraceStep(1, 0x3C2, 1)]
+        wanted = f"{program}: it ended with status 3 after 2 steps: "
+        self.assertTrue(refused(list, walk.answers(steps)).startswith(wanted))
+
     def test_cells_are_those_that_the_program_shows(self) -> None:
         for calls in (
             [(0x0003, 0, 0, 0), (0x0502, 0, 0, 0), (0x0942, 0x0217, 5, 0)],

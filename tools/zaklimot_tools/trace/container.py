@@ -10,7 +10,7 @@ from shutil import copyfileobj
 from tempfile import TemporaryDirectory
 from typing import BinaryIO, Iterator
 
-from zaklimot_tools.core.streams import length_of, reading, writing
+from zaklimot_tools.core.streams import length_of, reading, to_read, writing
 from zaklimot_tools.core.trouble import Trouble
 
 from .note import NOTE, VERDICT
@@ -51,6 +51,8 @@ def keep(folder: Path, path: str) -> int:
         if name not in names:
             told = "is no recording that was judged: `vga-trace record FOLDER --again` judges it"
             raise Trouble(f"it has no {name}, and {told}", str(folder))
+    for name in names:
+        to_read(str(folder / name))
     with writing(path) as stream:
         try:
             with zipfile.ZipFile(stream, "w", allowZip64=False) as archive:
