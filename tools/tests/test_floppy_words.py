@@ -1,0 +1,316 @@
+"""What `vga-floppy` makes of files, folders and streams at their limits: scripts of folders, images
+that are longer or shorter, pages in great numbers, and a screen that qemu dumps."""
+
+from __future__ import annotations
+
+import os
+import unittest
+from functools import partial
+from pathlib import Path
+from typing import Optional
+from unittest import mock
+
+from zaklimot_tools.explain.faults import script_of
+from zaklimot_tools.floppy import rows, running
+from zaklimot_tools.floppy.image import Run, image_for, read_image, read_record, report_lines
+from zaklimot_tools.floppy.running import MACHINES, PackagedFile
+from zaklimot_tools.floppy.table import Table, table_for
+from zaklimot_tools.images import others
+
+from .floppy import ANSWERS, Machine, line, machine, row
+from .test_beside import BOTH, bmp
+from .tools import TOOLS, Folder, ended, hold, hold_undone, png_rows, refused, run_tool
+
+run = partial(run_tool, "vga-floppy")
+# qemu with its monitor, as far as a screen is dumped: it leaves an image that has run, and notes
+# what it is asked.
+QEMU = """import json, os, socket, shutil, time
+server = socket.socket(socket.AF_UNIX)
+server.bind("qmp")
+server.listen()
+shutil.copy({image!r}, "after")
+os.rename("after", "script.img")
+connection, _ = server.accept()
+with connection, connection.makefile("rw") as monitor:
+    monitor.write('{{"QMP": {{}}}}\\n')
+    monitor.flush()
+    for line in monitor:
+        asked = json.loads(line)
+        with open({notes!r}, "a") as notes:
+            notes.write(asked["execute"] + " " + asked["arguments"].get("filename", "") + "\\n")
+        if asked["execute"] == "screendump":
+            open(asked["arguments"]["filename"], "wb").write({dump!r})
+        monitor.write('{{"return": {{}}}}\\n')
+        monitor.flush()
+time.sleep(600)
+"""
+
+
+@unittest.skipUnless(
+    Path("/proc/self/stat").exists(), "processes are looked at as Linux shows them"
+)
+class Dumped(Folder):
+    def test_the_screen_that_qemu_dumps(self) -> None:
+        image, notes = self.write("left", machine(b"in 3CC\n").image), self.folder / "notes"
+        dump = b"P6\n2 1\n255\n" + bytes([0xFF, 0x9A, 0, 3, 4, 0xFC])
+        text = QEMU.format(image=image, notes=str(notes), dump=dump)
+        self.program("bin/qemu-system-i386", text)
+        rom = PackagedFile("seabios", self.write("rom", "rom"))
+        self.patch(
+            mock.patch.dict(running.ROMS, {("qemu", "sea"): rom}),
+            mock.patch.object(running, "DRAWING", 0),
+            mock.patch.dict(
+                os.environ,
+                PATH=f"{self.folder}/bin:{os.environ['PATH']}",
+                TMPDIR=self.temporary(),
+            ),
+        )
+        picture, report = self.folder / "p.png", self.folder / "report"
+        words = ("run", "--on", "qemu", "--picture", picture, self.write("s.vga", "in 3CC\n"))
+        self.assertEqual(run(*words, report), (0, b"", ""))
+        self.assertEqual(report.read_bytes(), b"1 CC\n")
+        self.assertEqual(notes.read_text(), "qmp_capabilities \nscreendump dump.ppm\n")
+        # Six bits of each component, widened again.
+        row = bytes([0xFF, 0x9A, 0, 0, 4, 0xFF])
+        self.assertEqual(png_rows(picture.read_bytes()), (2, 1, [row]))
+
+    def test_a_report_into_a_folder_that_is_there(self) -> None:
+        # Of one script the report is a file, and of a folder's a folder.
+        image = self.write("left", machine(b"in 3CC\n").image)
+        (self.folder / "reports").mkdir()
+        hold_undone(
+            self,
+            run("read", image, self.folder / "reports"),
+            f"^vga-floppy: {self.folder}/reports: Is a directory\n$",
+        )
+        scripts = {"a/one": script_of(b"in 3CC\n", "one")}
+        named = self.write("named", Machine(image_for(scripts, "it")).image)
+        file = self.write("file", "kept")
+        hold_undone(self, run("read", named, file), f"^vga-floppy: {file}: it is not a folder\n$")
+        self.assertEqual(Path(file).read_text(), "kept")
+        self.assertEqual(run("read", named, self.folder / "reports"), (0, b"", ""))
+        self.assertEqual((self.folder / "reports" / "a" / "one.report").read_bytes(), b"1 CC\n")
+
+
+class Versions(Folder):
+    def test_programs_that_tell_no_version(self) -> None:
+        # Neither the emulator nor Debian's list of packages is there, or the package is none.
+        for path, what in (("", "qemu"), ("bin", "the package seabios")):
+            self.program("bin/qemu-system-i386", "#!/bin/sh\necho QEMU emulator version 7.2.5\n")
+            self.program(
+                "bin/dpkg-query", "#!/bin/sh\necho no packages found matching 1.2 >&2\nexit 1\n"
+            )
+            with mock.patch.dict(os.environ, PATH=f"{self.folder}/{path}"):
+                told = refused(MACHINES["qemu"].full_version)
+            self.assertEqual(told, f"the version of {what} can't be told")
+
+
+class Scripts(Folder):
+    def test_a_list_as_other_systems_write_it(self) -> None:
+        # Empty lines are none, and what stands behind a name is for a harness alone.
+        for name, text in (("a/one.vga", b"in 3CC\n"), ("b.c.bin", b"VGAS\1\x0b")):
+            self.write(f"scripts/{name}", text)
+        wanted = image_for(
+            {"a/one": script_of(b"in 3CC\n", "one"), "b.c": script_of(b"frame\n", "b")}, "all"
+        )
+        image = self.folder / "image"
+        for listed in (
+            "a/one.vga -\nb.c.bin -\n",
+            "a/one.vga fonts/some.fnt 7\n\n\nb.c.bin\n",
+            "a/one.vga\nb.c.bin",
+        ):
+            self.write("scripts/list.txt", listed)
+            self.assertEqual(run("make", self.folder / "scripts", image), (0, b"", ""))
+            self.assertEqual(image.read_bytes(), wanted, listed)
+
+    def test_names_that_are_no_ascii(self) -> None:
+        name = "d\u00e9p\u00f4t/\u00e9t\u00e9"
+        self.write(f"scripts/{name}.vga", "in 3CC\n")
+        self.write("scripts/list.txt", f"{name}.vga -\n")
+        image, reports = self.folder / "image", self.folder / "r\u00e9ports"
+        self.assertEqual(run("make", self.folder / "scripts", image), (0, b"", ""))
+        image.write_bytes(Machine(image.read_bytes()).image)
+        self.assertEqual(run("read", image, reports), (0, b"", ""))
+        self.assertEqual((reports / f"{name}.report").read_bytes(), b"1 CC\n")
+
+    def test_a_folder_without_a_list_and_one_that_lists_nothing(self) -> None:
+        (self.folder / "scripts").mkdir()
+        scripts = self.folder / "scripts"
+        hold_undone(self, run("make", scripts, "-"), f"^vga-floppy: {scripts}: Is a directory\n$")
+        self.write("scripts/list.txt", "gone.vga -\n")
+        hold_undone(
+            self,
+            run("make", scripts, "-"),
+            f"^vga-floppy: {scripts}/gone.vga: No such file or directory\n$",
+        )
+
+    def test_a_script_of_no_steps(self) -> None:
+        image = self.write("image", machine(b"").image)
+        self.assertEqual(run("read", image), (0, b"", ""))
+        # An image of no script at all has no report for standard output.
+        none = self.write("none", Machine(image_for({}, "it")).image)
+        told = f"^vga-floppy: {none}: it has the answers of 0 scripts: name a folder"
+        hold_undone(self, run("read", none), told)
+        self.assertEqual(run("read", none, self.folder / "reports"), (0, b"", ""))
+
+
+class Lengths(Folder):
+    def test_what_stands_behind_an_image_does_not_count(self) -> None:
+        # A stick is longer than an image, and a copy may end after the last answer.
+        left = machine(b"in 3CC\nin 3CE\n").image
+        for data in (left + b"more" * 9, left[: ANSWERS + 2], left):
+            self.assertEqual(run("read", "-", given=data), (0, b"1 CC\n2 CE\n", ""), len(data))
+        told = "^vga-floppy: standard input: its answers are damaged\n$"
+        hold_undone(self, run("read", "-", given=left[: ANSWERS + 1]), told)
+
+    def test_answers_of_many_pages(self) -> None:
+        # 30,500 answers take 67 pages, whose checks take seven rows of one more.
+        script = b"version 2\nrepeat 6100\nin 3CC\nin 3CE\nin 3CE\nin 3C1\nin 3C2\nend\n"
+        wanted = b"".join(
+            b"%d %s\n" % (number, (b"CC", b"CE", b"CE", b"C1", b"C2")[(number - 1) % 5])
+            for number in range(1, 30_501)
+        )
+        booted = machine(script)
+        self.assertEqual(len(booted.pages), 68)
+        image = self.write("image", image_for({"": script_of(script, "it")}, "it"))
+        for number, page in enumerate(booted.pages):
+            self.write(f"pages/{number:03}.txt", page)
+        done = run("read", image, "--pages", self.folder / "pages")
+        self.assertTrue(done == (0, wanted, ""), done[2])
+        # Each page that is missing is named, eight of them.
+        for number in range(50, 68):
+            (self.folder / "pages" / f"{number:03}.txt").unlink()
+        places = ", ".join(f"page {number}" for number in range(50, 58))
+        told = f"the pages lack {places}, and 10 others; --part gives the report so far\n"
+        done = run("read", image, "--pages", self.folder / "pages")
+        self.assertEqual(done, (2, b"", f"vga-floppy: {self.folder}/pages: {told}"))
+        done = run("read", image, "--part", "--pages", self.folder / "pages")
+        self.assertTrue(done == (0, b"".join(wanted.splitlines(True)[: 49 * 462]), ""), done[2])
+
+    def test_a_record_with_other_ends_of_lines_and_a_cut_one(self) -> None:
+        lines = machine(b"in 3CC\n" * 20).record
+        report = b"".join(b"%d CC\n" % number for number in range(1, 21))
+
+        def told(data: bytes) -> bytes:
+            return b"".join(report_lines(read_record(data, "it"), "it"))
+
+        whole = b"".join(lines)
+        self.assertEqual(told(whole.replace(b"\r\n", b"\n")), report)
+        # What comes behind the end doesn't count, nor does a last line without its end.
+        self.assertEqual(told(whole + b"noise\r\n"), report)
+        self.assertFalse(read_record(whole[:-1], "it").is_whole)
+        self.assertEqual(told(whole[:-1]), report)
+        self.assertEqual(told(b"".join(lines[:-2]) + lines[-2][:-2]), report[: report.index(b"17")])
+        # Several steps begun are told by lines between.
+        between = [*lines[:-2], line("P", 1), line("P", 2), *lines[-2:]]
+        self.assertEqual(told(b"".join(between)), report)
+
+    def test_a_record_as_long_as_may_be_read(self) -> None:
+        record = b"".join(machine(b"in 3CC\n").record)
+        with mock.patch("zaklimot_tools.floppy.command.MOST_READ", len(record)):
+            for noise, told in ((b"", (0, b"1 CC\n", "")), (b"\n", None)):
+                done = run("read", "--serial", "-", given=noise + record)
+                if told is None:
+                    hold_undone(self, done, "^vga-floppy: standard input: the record ends before")
+                else:
+                    self.assertEqual(done, told)
+
+
+class Runs(Folder):
+    def test_answers_that_no_step_has(self) -> None:
+        table = Table(table_for({"": script_of(b"in 3CC\n", "it")}), "it")
+        for answers, told in (
+            (b"", "it: it has no answer for step 1"),
+            (b"\1\2", "it: it has 2 bytes of answers, and its steps have 1"),
+        ):
+            self.assertEqual(refused(lambda: list(report_lines(Run(table, answers), "it"))), told)
+        self.assertEqual(list(report_lines(Run(table, b"\1"), "it")), [b"1 01\n"])
+
+    def test_a_call_at_the_end_of_the_dac(self) -> None:
+        # Function 10 with AL 17 reads up to the last entry, and no farther.
+        def answers(numbers: str) -> bytes:
+            image = machine(f"int ax=1017 {numbers}\n".encode()).image
+            (told,) = report_lines(read_image(image, "it"), "it")
+            return told.partition(b" block ")[2] or told
+
+        hold(
+            self,
+            answers,
+            (
+                ("bx=FF cx=1", b"000102\n"),
+                ("bx=FF cx=2", b"1 skipped\n"),
+                ("bx=100 cx=0", b"1 ax=1017 bx=0100 cx=0000 dx=0000\n"),
+                ("bx=101 cx=0", b"1 skipped\n"),
+            ),
+        )
+
+
+class Texts(Folder):
+    def test_a_text_that_is_no_utf_8_is_no_text(self) -> None:
+        self.program("bin/tesseract", "#!/bin/sh\nexit 1\n")
+        path = self.write("rows.txt", "r\u00e9ponses\n".encode("latin-1"))
+        with mock.patch.dict(os.environ, PATH=f"{self.folder}/bin"):
+            with mock.patch.object(others, "pillow", lambda: None):
+                told = refused(rows.read_file, path)
+        self.assertEqual(told, f"{path}: tesseract can't read it: it said nothing")
+
+    def test_lines_of_other_systems(self) -> None:
+        text = "\n".join(machine(b"in 3CC\n" * 30).pages)
+        for ending in ("\r\n", "\r", "\n"):
+            path = self.write("rows.txt", text.replace("\n", ending))
+            found = rows.read_file(path)
+            self.assertEqual((found.answers(), found.missing()), (b"\xcc" * 30, []))
+
+    def test_rows_of_a_length_that_no_page_has(self) -> None:
+        for number, length, is_one in ((0, 22, True), (0, 24, False), (0x8001, 24, False)):
+            pages = rows.Pages()
+            told = "it:2: the row is none that a machine shows"
+            text = f"\n{row(number, bytes(length))}\n"
+            if is_one:
+                pages.add(text, "it")
+                self.assertEqual(pages.count, 1)
+            else:
+                self.assertEqual(refused(pages.add, text, "it"), told)
+        # Words that are fewer than those of a row are passed over, and three that don't fit aren't.
+        pages = rows.Pages()
+        pages.add("babab babab\nbabab babab badab\nno words at all\n", "it")
+        self.assertEqual((pages.count, pages.damaged), (0, ["it:2"]))
+
+
+@unittest.skipIf(BOTH is None, "no Python has numpy and Pillow: install python3-numpy, python3-pil")
+class Photographs(Folder):
+    def read(self, data: bytes, reader: Optional[str] = None) -> tuple[int, str, str]:
+        """How pages are read from an image by a Python with Pillow, and a reader of text."""
+        image = self.write("image", machine(b"in 3CC\n").image)
+        path = self.write("pages/photo.bmp", data)
+        self.program("bin/tesseract", reader or "#!/bin/sh\nexit 1\n")
+        environment = {**os.environ, "PATH": f"{self.folder}/bin:{os.environ['PATH']}"}
+        words = (str(BOTH), TOOLS / "vga-floppy", "read", image, "--pages", path)
+        return ended(*words, env=environment)
+
+    def test_photographs_that_are_too_large_or_cut_off(self) -> None:
+        for data, told in (
+            (
+                bmp([[(0, 0, 0)]], (8193, 8192)),
+                "it has 8193x8192 dots, and 67,108,864 are the most",
+            ),
+            (bmp([[(0, 0, 0)]], (8192, 8192)), "pillow can't read it: image file is truncated"),
+        ):
+            hold_undone(self, self.read(data), f"^vga-floppy: .*/photo.bmp: {told}")
+
+    def test_a_photograph_is_read_dark_on_white_and_as_it_is(self) -> None:
+        # The reader keeps what it is given, and sees no row.
+        kept = f'#!/bin/sh\n/bin/cat > "{self.folder}/seen-$(ls {self.folder} | wc -l)"\n'
+        data = bmp([[(250, 250, 250)] * 4 + [(9, 9, 9)] * 16] * 10)
+        hold_undone(self, self.read(data, kept), "the pages lack the first row of the page of che")
+        seen = sorted(self.folder.glob("seen-*"), key=lambda path: path.stat().st_mtime_ns)
+        self.assertEqual(len(seen), 3)
+        self.assertEqual(seen[2].read_bytes(), data)
+        asking = (
+            "import sys; from PIL import Image; image = Image.open(sys.argv[1]);"
+            "w, h = image.size; print(image.mode, w, h, image.getpixel((w // 10, h // 2)) < 20,"
+            " image.getpixel((w * 6 // 10, h // 2)) > 235)"
+        )
+        for path, width in zip(seen, (1800, 1400)):
+            told = ended(str(BOTH), "-c", asking, path)
+            self.assertEqual(told, (0, f"L {width} {width // 2} True True\n", ""))
