@@ -274,10 +274,8 @@ def _cut(box: Box, part: int) -> Iterator[Box]:
 def _cut_boxes(whole: Box, most: int) -> list[Box]:
     """So many boxes of the colours of one, or one for each colour."""
     boxes = [whole]
-    while len(boxes) < most:
+    while len(boxes) < min(most, len(whole)):
         cuts = [_cut_of(box, number) for number, box in enumerate(boxes) if len(box) > 1]
-        if not cuts:
-            break
         best = max(cuts, key=lambda cut: (cut.weight, cut.part, -cut.number))
         boxes.extend(_cut(boxes.pop(best.number), best.part))
     return boxes
