@@ -9,6 +9,7 @@ import re
 import shutil
 import tempfile
 from functools import partial
+from itertools import islice
 from pathlib import Path
 from threading import Event
 from typing import NamedTuple, Optional
@@ -135,7 +136,7 @@ def check_unicorn(program: Path, python: str, folder: Path, count: int, seed: in
     jobs = os.cpu_count() or 1
     work = partial(_compared, program, python, folder, is_ended)
     while total.compared < count:
-        seeds = [number for number, _ in zip(chunks, range(jobs))]
+        seeds = list(islice(chunks, jobs))
         if not seeds:
             told = f"only {total.compared:,} cases came of Unicorn"
             raise Wrong(f"{told}, which ends its process too often")
