@@ -1,0 +1,355 @@
+"""How the page's modules are made: the machine's source as it is kept, fetched and patched, and the
+programs that are called; all by programs that stand in their places."""
+
+from __future__ import annotations
+
+import hashlib
+import io
+import os
+import tarfile
+from argparse import Namespace
+from pathlib import Path
+from typing import Any, Optional
+from unittest import mock
+
+from zaklimot_tools.core.progress import Progress
+from zaklimot_tools.dev.page import command, machine, making
+from zaklimot_tools.dev.page.machine import MachineModules
+from zaklimot_tools.dev.page.making import check_module, kit_of, with_kit
+
+from .test_page import NATIVE, Modules, module_of
+from .tools import Folder, call, hold, main_of, patched, refused, run_tool
+
+ARCHIVE = "libx86emu_3.5.orig.tar.gz"
+RIGHT = module_of(Modules.right)
+# Programs of a kit and of Debian, which note their words and write what they are asked for; the
+# first keeps the LLVM module by the toolchain that it is given.
+RATTLE = """#!/bin/sh
+echo "rattle $*" >> "$NOTES"
+[ "$1" = check ] && echo "$SAYS"
+while [ $# -gt 1 ]; do
+    [ "$1" = --toolchain ] && toolchain=$2
+    shift
+done
+[ -z "$toolchain" ] && exit
+cd "$TMPDIR" && /bin/cp "$NATIVE" module.bc && "$toolchain/bin/clang" && [ -f module.o ]
+"""
+CLANG = """#!/bin/sh
+echo "${0##*/} $*" >> "$NOTES"
+[ "$1" = --version ] && printf 'some  clang 14.0 \\nmore\\n' && exit
+from=/dev/null
+while [ $# -gt 1 ]; do
+    case "$1" in *.bc) from=$1 ;; esac
+    [ "$1" = -o ] && to=$2
+    shift
+done
+/bin/cp "$from" "$to"
+"""
+ARCHIVER = '#!/bin/sh\necho "llvm-ar $*" >> "$NOTES"\n: > "$3"\n'
+LINKER = """#!/bin/sh
+echo "${0##*/} $*" >> "$NOTES"
+while [ $# -gt 1 ]; do
+    [ "$1" = -o ] && /bin/cp "$LINKED" "$2"
+    shift
+done
+"""
+RT = """#!/bin/sh
+echo "rt $*" >> "$NOTES"
+[ "$1" = doc ] && echo "$KIT/START-HERE.md"
+[ "$1" = version ] && echo "kit 7 "
+exit 0
+"""
+
+
+def archive_of(**files: str) -> bytes:
+    """An archive of files in one folder."""
+    with io.BytesIO() as stream:
+        with tarfile.open(fileobj=stream, mode="w:gz") as archive:
+            for name, text in files.items():
+                member = tarfile.TarInfo(f"libx86emu-3.5/{name}")
+                member.size = len(text)
+                archive.addfile(member, io.BytesIO(text.encode()))
+        return stream.getvalue()
+
+
+class Making(Folder):
+    """A path of programs of the test alone, which note their words."""
+
+    def setUp(self) -> None:
+        super().setUp()
+        (self.folder / "bin").mkdir()
+        self.notes = self.folder / "notes"
+        environment = {
+            "PATH": str(self.folder / "bin"),
+            "NOTES": str(self.notes),
+            "TMPDIR": self.temporary(),
+        }
+        self.patch(mock.patch.dict(os.environ, environment))
+
+    def noted(self) -> list[str]:
+        """The words of each program that was called."""
+        return self.notes.read_text().splitlines() if self.notes.exists() else []
+
+
+class Sources(Making):
+    def setUp(self) -> None:
+        super().setUp()
+        self.data = archive_of(LICENSE="free", **{"decode.c": "int one;\n", "x/y.h": "two"})
+        self.kept = self.folder / "cache" / ARCHIVE
+        self.patch(
+            mock.patch.object(machine, "SHA256", hashlib.sha256(self.data).hexdigest()),
+            mock.patch.object(machine, "cache_folder", lambda: self.kept.parent),
+        )
+
+    def fetching(self, data: bytes, status: int = 0) -> None:
+        """A program in the place of apt that fetches this."""
+        given = self.write("given", data)
+        self.program(
+            "bin/apt-get",
+            '#!/bin/sh\necho "$*" >> "$NOTES"\n[ ! -e fetched ] || exit 9\n'
+            f'case "$*" in *" source "*) /bin/cp {given} {ARCHIVE} ;; esac\n'
+            f"echo 'no net' >&2\nexit {status}\n",
+        )
+
+    def test_what_is_kept_is_not_fetched_again(self) -> None:
+        self.write(f"cache/{ARCHIVE}", self.data)
+        self.assertEqual((machine.source(), self.noted()), (self.data, []))
+
+    def test_what_is_fetched_is_kept(self) -> None:
+        self.fetching(self.data)
+        for before in (None, b"damaged"):
+            if before is not None:
+                self.kept.write_bytes(before)
+            self.assertEqual(machine.source(), self.data)
+            self.assertEqual(self.kept.read_bytes(), self.data)
+            self.assertEqual(os.listdir(self.kept.parent), [ARCHIVE])
+        first, second = self.noted()[:2]
+        self.assertTrue(first.endswith(" update"), first)
+        self.assertTrue(second.endswith(" source --download-only --tar-only libx86emu"), second)
+        # The lists are its own, and so is the folder of what comes.
+        for word in ("Dir::Etc::sourceparts=/dev/null", "Dir::State::lists=", "Dir::Cache="):
+            self.assertIn(f" -o {word}", first)
+
+    def test_what_is_fetched_and_is_another(self) -> None:
+        self.fetching(self.data + b"x")
+        self.assertEqual(
+            refused(machine.source),
+            f"{ARCHIVE}: it has another sum than the one that is known: {machine.SHA256}",
+        )
+        self.assertFalse(self.kept.exists())
+
+    def test_what_can_not_be_fetched(self) -> None:
+        self.fetching(self.data, status=100)
+        self.assertEqual(
+            refused(machine.source),
+            "apt-get: the source of Debian's package libx86emu can't be fetched;"
+            f" {ARCHIVE} may lie at {self.kept}\nno net",
+        )
+        self.assertEqual(len(self.noted()), 1)
+        (self.folder / "bin" / "apt-get").unlink()
+        told = refused(machine.source)
+        self.assertRegex(told, "^apt-get: it is not in the path")
+        self.assertTrue(told.endswith(f"; put Debian's {ARCHIVE} at {self.kept}"), told)
+
+    def patched(self, data: bytes) -> Path:
+        """The source of an archive with two patches."""
+        self.program("bin/patch", '#!/bin/sh\necho "${PWD##*/} $*" >> "$NOTES"\n')
+        self.write("machine/patches/series", "b.patch\na.patch\n")
+        (self.folder / "made").mkdir(exist_ok=True)
+        faked = {"source": lambda: data, "MACHINE": self.folder / "machine"}
+        with patched(machine, faked):
+            return machine.patched(self.folder / "made")
+
+    def test_the_source_is_patched_in_order(self) -> None:
+        top = self.patched(self.data)
+        self.assertEqual(top, self.folder / "made" / "libx86emu")
+        self.assertEqual((top / "x" / "y.h").read_text(), "two")
+        patches = self.folder / "machine" / "patches"
+        self.assertEqual(
+            self.noted(),
+            [f"libx86emu --quiet --fuzz=0 -p1 -i {patches}/{name}.patch" for name in ("b", "a")],
+        )
+
+    def test_a_file_outside_of_the_source(self) -> None:
+        told = refused(self.patched, archive_of(**{"../../out": "x"}))
+        self.assertEqual(told, f"{ARCHIVE}: it has a file outside of its folder: ../../out")
+        self.assertFalse((self.folder / "out").exists())
+
+
+class Machine(Making):
+    def setUp(self) -> None:
+        super().setUp()
+        self.write("linked", RIGHT)
+        for name, text in (("clang", CLANG), ("wasm-ld", LINKER)):
+            self.program(f"bin/{name}", text)
+        self.patch(mock.patch.dict(os.environ, LINKED=str(self.folder / "linked")))
+
+    def made(self, licence: str) -> MachineModules:
+        """The modules of a source with this licence."""
+        self.write("top/LICENSE", licence)
+        faked = {"patched": lambda _: self.folder / "top", "NOTICE": Path(self.write("n", "free"))}
+        with patched(machine, faked):
+            return machine.made_machine()
+
+    def test_the_modules_tell_their_compiler(self) -> None:
+        modules = self.made("free")
+        wanted = with_kit(RIGHT, "some clang 14.0")
+        self.assertEqual(modules, MachineModules(wanted, wanted))
+        self.assertTrue(machine.is_of_this_compiler(modules))
+        other = with_kit(RIGHT, "other clang 14.0")
+        for both in (MachineModules(wanted, other), MachineModules(other, wanted)):
+            self.assertFalse(machine.is_of_this_compiler(both))
+        compiled = [line for line in self.noted() if line.startswith("clang --target=wasm32 ")]
+        levels = {Path(line.split(" -c ")[1].split()[0]).stem: " -O3 " in line for line in compiled}
+        # What is done often is fast, and what is ours has no warning.
+        self.assertTrue(levels["decode"] and levels["reads"] and levels["memory"])
+        self.assertFalse(levels["ops"] or levels["library"])
+        for line in compiled:
+            is_ours = f"{self.folder}/top/" not in line.split(" -c ")[1] and "usual.c" not in line
+            self.assertEqual((" -Werror " in line, " -w " in line), (is_ours, not is_ours), line)
+        first, second = (line for line in self.noted() if line.startswith("wasm-ld "))
+        self.assertIn(" --export=__heap_base ", first)
+        self.assertEqual(first.count(".o "), len(compiled) - 1)
+        self.assertIn(" --import-memory --allow-undefined ", second)
+
+    def test_another_licence(self) -> None:
+        told = refused(self.made, "other")
+        self.assertEqual(told, f"{self.folder}/n: it is not the licence of the source")
+        self.assertEqual(self.noted(), ["clang --version"])
+
+    def test_a_compiler_that_is_missing(self) -> None:
+        for name in ("wasm-ld", "clang"):
+            (self.folder / "bin" / name).unlink()
+            self.assertRegex(refused(machine.compiler_line), f"^{name}: it is not in the path")
+
+
+class Modules64(Making):
+    def setUp(self) -> None:
+        super().setUp()
+        for name, text in (
+            ("bin/rt", RT),
+            ("kit/bin/rattle", RATTLE),
+            ("kit/bin/rattle-link", LINKER),
+            ("kit/toolchain/bin/clang", CLANG),
+            ("kit/toolchain/bin/llvm-ar", ARCHIVER),
+            ("bin/wasm-opt", LINKER),
+        ):
+            self.program(name, text)
+        says = "logic=proved functions=9 target=wasm64-unknown-unknown"
+        self.patch(
+            mock.patch.dict(
+                os.environ,
+                {
+                    "KIT": str(self.folder / "kit"),
+                    "SAYS": says,
+                    "NATIVE": self.write("native", NATIVE),
+                    "LINKED": self.write("linked", RIGHT),
+                },
+            ),
+            patched(making, {"CRATE": self.folder / "vga_c"}),
+            patched(making, {"proving_words": lambda kit, kept: ["PROVING", "--keeps", kept]}),
+        )
+        (self.folder / "vga_c").mkdir()
+        self.progress = mock.create_autospec(Progress, instance=True)
+
+    def words(self, is_gated: bool = False, proof: Optional[Path] = None) -> Any:
+        return Namespace(gated=is_gated, proof=proof, memory=None)
+
+    def of(self, name: str) -> list[str]:
+        """The words of each call of a program."""
+        return [line for line in self.noted() if line.startswith(f"{name} ")]
+
+    def test_modules_of_each_size_of_memory(self) -> None:
+        made = making.made_modules(self.words(), self.progress, [None, 1 << 24], times=2)
+        self.assertEqual(made, [[with_kit(RIGHT, "kit 7")] * 2] * 2)
+        # The crate is proved once, for both processors, and each time a module is made anew.
+        self.assertEqual(len(self.of("rt check")) + len(self.of("rattle check")), 1)
+        self.assertEqual([line for line in self.noted() if line == "rt check"], ["rt check"])
+        (proving,) = (line for line in self.of("rattle") if " check " in line)
+        self.assertRegex(proving, " PROVING --keeps .*incremental --target wasm64-unknown-unknown$")
+        self.assertEqual(len([line for line in self.of("rattle") if " build " in line]), 2)
+        links = self.of("rattle-link")
+        self.assertEqual([" --memory 16777216 " in line for line in links], [False, True] * 2)
+        self.assertTrue(all(" -O3 " in line for line in self.of("wasm-opt")))
+
+    def test_the_module_for_c_stays_as_it_is_lowered(self) -> None:
+        made = making.made_for_c(self.words(), self.progress)
+        self.assertEqual(made, with_kit(RIGHT, "kit 7"))
+        (lowering,) = self.of("wasm-opt")
+        self.assertNotIn("-O", lowering.replace(" -o ", " "))
+        self.assertIn("--memory64-lowering", lowering)
+        self.progress.clear.assert_called()
+
+    def test_the_gate_s_libraries_and_a_folder_for_the_proof(self) -> None:
+        proof = self.folder / "proof"
+        making.made_module(self.words(True, proof), self.progress)
+        self.assertEqual([line for line in self.noted() if line == "rt check"], [])
+        for line in self.of("rattle"):
+            self.assertIn(f"PROVING --keeps {proof} ", line)
+        self.notes.unlink()
+        making.made_module(self.words(True), self.progress)
+        for line in self.of("rattle"):
+            self.assertRegex(line, r"PROVING --keeps /\S+/vga-page-\w+/proof ")
+
+    def test_a_compiler_that_does_not_say_that_it_is_proved(self) -> None:
+        for says in ("logic=proved target=x86_64", "logic=tried target=wasm64-unknown-unknown", ""):
+            with mock.patch.dict(os.environ, SAYS=says):
+                told = refused(making.made_module, self.words(), self.progress)
+            self.assertEqual(
+                told,
+                "vga_c: the compiler doesn't say that it is proved for wasm64-unknown-unknown",
+            )
+        self.assertEqual(self.of("wasm-opt"), [])
+
+    def test_a_module_that_lacks_a_call_is_none(self) -> None:
+        lacking = self.write("lacking", module_of(Modules.right[1:]))
+        with mock.patch.dict(os.environ, LINKED=lacking):
+            told = refused(making.made_module, self.words(), self.progress)
+        self.assertRegex(told, "^the module: it lacks ")
+
+
+class Forms(Folder):
+    def test_the_kit_of_a_module(self) -> None:
+        hold(
+            self,
+            kit_of,
+            (
+                (RIGHT, ""),
+                (with_kit(RIGHT, "one"), "one"),
+                (with_kit(with_kit(RIGHT, "one"), "two"), "two"),
+                (with_kit(RIGHT, 123 * "n"), 123 * "n"),
+                (module_of(Modules.right, (0, b"\4name")), ""),
+            ),
+        )
+        told = refused(with_kit, RIGHT, 124 * "n")
+        self.assertEqual(told, f"{124 * 'n'}: it has more letters than a kit's line")
+
+    def test_what_is_told_of_a_module(self) -> None:
+        count = len(Modules.calls)
+        told = f"{len(RIGHT):,} bytes, {count} calls, no imports, no table"
+        self.assertEqual(check_module(RIGHT), told)
+        with mock.patch.object(making, "MOST_MODULE", len(RIGHT)):
+            self.assertEqual(check_module(RIGHT), told)
+            told = refused(check_module, RIGHT + b"\0\0")
+        self.assertEqual(told, f"the module: it has more than {len(RIGHT):,} bytes")
+        # What is shared or has no size at all is no memory of the page.
+        none = RIGHT.replace(bytes([5, 3, 1, 0, 1]), b"")
+        self.assertEqual(
+            refused(check_module, none), "the module: its memory is not one of 32-bit addresses"
+        )
+
+    def test_a_module_alone(self) -> None:
+        asked: list[Any] = []
+
+        def made(words: Any, _: Progress) -> bytes:
+            asked.append((words.memory, words.gated, words.module))
+            return RIGHT
+
+        path = self.folder / "m.wasm"
+        with patched(command, {"made_module": made}):
+            done = call(main_of("vga-page"), "module", path, "--memory", "2")
+            self.assertEqual(done, (0, f"{path}: {check_module(RIGHT)}\n", ""))
+            self.assertEqual(run_tool("vga-page", "module", "-", "--gated"), (0, RIGHT, ""))
+            self.assertEqual(call(main_of("vga-page"), "module", path)[0], 0)
+        self.assertEqual(path.read_bytes(), RIGHT)
+        self.assertEqual(asked, [(2 << 20, False, None), (None, False, None)])
