@@ -14,6 +14,7 @@ from zaklimot_tools.picture.asked import Fewer
 from zaklimot_tools.picture.cells import Chooser, font_of
 from zaklimot_tools.picture.colours import Colour, distance, indexed, middle_colours, outer_colours
 from zaklimot_tools.picture.mode import MODES, text_of
+from zaklimot_tools.picture.screen import best_numbers
 from zaklimot_tools.script.words import FONTS
 
 from .test_beside import BOTH
@@ -91,6 +92,20 @@ class Many(unittest.TestCase):
         counts = Counter[Colour]({BLACK: 1, WHITE: 3, (5, 5, 5): 2})
         for chosen in (middle_colours, outer_colours):
             self.assertEqual(chosen(counts, 16), sorted(counts))
+
+
+class Numbers(unittest.TestCase):
+    def test_what_is_there_most_often_decides_on_the_numbers(self) -> None:
+        # Words of more kinds than are looked at, each there once, and one that is there often: of
+        # its two colours one has no bit, so that it takes a single write.
+        chance = random.Random(8)
+        kinds = {tuple(sorted(chance.sample(range(14), 5))) for _ in range(700)}
+        self.assertGreater(len(kinds), 400)
+        rare = b"".join(bytes(kind).ljust(16, bytes(kind[:1])) for kind in sorted(kinds))
+        often = bytes([14, 15] * 8) * 2000
+        numbers = best_numbers([rare, often], 16)
+        self.assertEqual(sorted(numbers), list(range(16)))
+        self.assertEqual(min(numbers[14], numbers[15]), 0)
 
 
 class Order(unittest.TestCase):

@@ -162,6 +162,9 @@ class Lengths(Folder):
             self.assertEqual(run("read", "-", given=data), (0, b"1 CC\n2 CE\n", ""), len(data))
         told = "^vga-floppy: standard input: its answers are damaged\n$"
         hold_undone(self, run("read", "-", given=left[: ANSWERS + 1]), told)
+        # An answer of 00 adds nothing to their sum, and may be cut off all the same.
+        left = machine(b"put A0000 0\nget A0000\n").image
+        hold_undone(self, run("read", "-", given=left[:ANSWERS]), told)
 
     def test_answers_of_many_pages(self) -> None:
         # 30,500 answers take 67 pages, whose checks take seven rows of one more.
@@ -253,6 +256,16 @@ class Texts(Folder):
             with mock.patch.object(others, "pillow", lambda: None):
                 told = refused(rows.read_file, path)
         self.assertEqual(told, f"{path}: tesseract can't read it: it said nothing")
+
+    def test_bytes_of_a_picture_that_would_be_a_text(self) -> None:
+        # A reader of text sees a row in it, and its own bytes have others.
+        dots = b"P6\n2 1\n255\n" + bytes(6) + f"\n{row(1, bytes(22))}\n".encode()
+        path = self.write("page.ppm", dots)
+        self.program("bin/tesseract", f"#!/bin/sh\necho {row(0, bytes(22))}\n")
+        with mock.patch.dict(os.environ, PATH=f"{self.folder}/bin:{os.environ['PATH']}"):
+            with mock.patch.object(others, "pillow", lambda: None):
+                found = rows.read_file(path)
+        self.assertEqual(list(found.rows), [0])
 
     def test_lines_of_other_systems(self) -> None:
         text = "\n".join(machine(b"in 3CC\n" * 30).pages)
