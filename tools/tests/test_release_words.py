@@ -96,7 +96,73 @@ class Archives(Folder):
         self.assertEqual(asked, [])
 
 
+class Entries(Folder):
+    def test_what_a_release_is_made_of(self) -> None:
+        # The commit's files, the suite's scripts, what is built with its sums, and its installer.
+        asked: list[object] = []
+
+        def files_of(commit: Commit, paths: tuple[str, ...]) -> dict[str, Entry]:
+            asked.append((commit, paths))
+            return {"LICENSE": File(b"free"), release.PAGE: File(b"# A release\n")}
+
+        def run(words: list[object]) -> str:
+            self.assertEqual([str(word) for word in words[2:-1]], ["scripts"])
+            folder = Path(str(words[-1]))
+            folder.mkdir()
+            (folder / "list.txt").write_text("one.vga -\n")
+            return ""
+
+        def library_files(files: object, target: Target, archive: Path) -> dict[str, Entry]:
+            return {f"{target.name}/lib": File(archive.read_bytes()), f"{target.name}/so": "lib"}
+
+        program, archive = Path(self.write("vga", "program")), Path(self.write("a", "archive"))
+        faked = {
+            "files_of": files_of,
+            "run": run,
+            "library_files": library_files,
+            "kit_line": lambda: "kit 7",
+        }
+        with patched(release, faked):
+            entries = release.release_entries(COMMIT, program, {X86_64: archive, AARCH64: archive})
+        self.assertEqual(asked, [(COMMIT, release.PATHS)])
+        self.assertEqual(entries["bin/vga"], File(b"program", True))
+        self.assertEqual(entries["README.md"], File(b"# A release\n"))
+        self.assertEqual(entries["scripts/list.txt"], File(b"one.vga -\n"))
+        self.assertEqual(entries["aarch64/so"], "lib")
+        install = entries["install.sh"]
+        assert isinstance(install, File)
+        self.assertTrue(install.is_executable and install.content.startswith(b"#!/bin/sh\n"))
+        sums = [hashlib.sha256(data).hexdigest() for data in (b"archive", b"program")]
+        told = [f"sha256 {sums[0]} aarch64/lib", f"sha256 {sums[1]} bin/vga"]
+        told.append(f"sha256 {sums[0]} x86_64/lib")
+        front = "commit 0123abcd\ntoolchain kit 7\n"
+        wanted = File("".join([front, *(f"{line}\n" for line in told)]).encode())
+        self.assertEqual(entries["MADE-OF"], wanted)
+        self.assertLessEqual(set(release.LINKS), set(entries))
+
+    def test_what_is_given_and_is_no_file(self) -> None:
+        for option in ("--program", "--archive", "--archive-aarch64"):
+            for path in (self.folder, self.folder / "none"):
+                done = call(main_of("vga-release"), self.folder / "r", option, path)
+                told = f"^vga-release: {path}: (there is no such file|Is a directory|No such file)"
+                hold_undone(self, done, told)
+        self.assertEqual(self.names(), [])
+
+
 class Commits(Folder):
+    def test_the_first_of_what_is_changed_is_told(self) -> None:
+        asked: list[tuple[str, ...]] = []
+
+        def git(*words: str) -> bytes:
+            asked.append(words)
+            return b" M b\xff\nA  a\n"
+
+        with mock.patch.object(release, "_git", git):
+            told = refused(release.clean_commit)
+        self.assertEqual(told, "a release is made from a commit, and this is changed: M b\ufffd")
+        # What was added to the folder and not to the commit is no part of a release.
+        self.assertEqual(asked, [("status", "--porcelain", "--untracked-files=no")])
+
     def test_the_commit_and_its_time(self) -> None:
         told = {"status": b"", "log": b"0123abcd 1700000000\n"}
         with mock.patch.object(release, "_git", lambda command, *_: told[command]):
