@@ -10,6 +10,7 @@ from pathlib import Path
 from typing import Optional
 from unittest import mock
 
+from zaklimot_tools.core.progress import Progress
 from zaklimot_tools.explain.faults import script_of
 from zaklimot_tools.floppy import rows, running
 from zaklimot_tools.floppy.image import Run, image_for, read_image, read_record, report_lines
@@ -19,7 +20,18 @@ from zaklimot_tools.images import others
 
 from .floppy import ANSWERS, Machine, line, machine, row
 from .test_beside import BOTH, bmp
-from .tools import TOOLS, Folder, ended, hold, hold_undone, png_rows, refused, run_tool
+from .tools import (
+    TOOLS,
+    Folder,
+    call,
+    ended,
+    hold,
+    hold_undone,
+    main_of,
+    png_rows,
+    refused,
+    run_tool,
+)
 
 run = partial(run_tool, "vga-floppy")
 # qemu with its monitor, as far as a screen is dumped: it leaves an image that has run, and notes
@@ -189,6 +201,22 @@ class Lengths(Folder):
         self.assertEqual(done, (2, b"", f"vga-floppy: {self.folder}/pages: {told}"))
         done = run("read", image, "--part", "--pages", self.folder / "pages")
         self.assertTrue(done == (0, b"".join(wanted.splitlines(True)[: 49 * 462]), ""), done[2])
+
+    def test_how_many_pages_are_read_is_told(self) -> None:
+        booted = machine(b"in 3CC\n" * 30)
+        image = self.write("image", booted.image)
+        for pages in (["".join(f"{page}\n" for page in booted.pages)], booted.pages):
+            names = [self.write(f"{number}.txt", page) for number, page in enumerate(pages)]
+            progress = mock.create_autospec(Progress, instance=True)
+            progress.is_due.return_value = True
+            with mock.patch("zaklimot_tools.core.cli.Progress", return_value=progress):
+                words = [f"--pages={name}" for name in names]
+                done = call(main_of("vga-floppy"), "read", image, *words, self.folder / "report")
+            self.assertEqual(done, (0, "", ""))
+            told = [given.args[0] for given in progress.tell.call_args_list]
+            plural = "s" * (len(names) > 1)
+            wanted = [f"{number} of {len(names)} page{plural}" for number in range(len(names))]
+            self.assertEqual(told, wanted)
 
     def test_a_record_with_other_ends_of_lines_and_a_cut_one(self) -> None:
         lines = machine(b"in 3CC\n" * 20).record

@@ -3,7 +3,9 @@ colours, and outputs that can't both be written."""
 
 import re
 import tempfile
+from unittest import mock
 
+from zaklimot_tools.core.progress import Progress
 from zaklimot_tools.picture import steps
 from zaklimot_tools.picture.cells import FONTS_AT
 from zaklimot_tools.picture.words import main
@@ -24,6 +26,22 @@ class Words(Folder):
             run_tool("vga-picture", *words, "12", given=image),
             "^vga-picture: standard input: the image has 320x200 dots, and mode 12 has 640x480: ",
         )
+
+    def test_how_many_cells_are_done_is_told(self) -> None:
+        image = self.write("image", ppm_of([[RED] * 720] * 400))
+        words = ("script", image, self.folder / "s", "--mode", "3")
+        for more, cells, times in (
+            ((), 2000, 1),
+            (("--own-glyphs",), 2000, 2),
+        ):
+            progress = mock.create_autospec(Progress, instance=True)
+            progress.is_due.return_value = True
+            with mock.patch("zaklimot_tools.core.cli.Progress", return_value=progress):
+                self.assertEqual(call(main, *words, *more)[0], 0)
+            told = [given.args[0] for given in progress.tell.call_args_list]
+            wanted = [f"{done:,} of {cells:,} cells" for done in range(1, cells + 1)] * times
+            self.assertEqual(told, wanted)
+            progress.clear.assert_called()
 
     def test_a_mode_in_small_letters(self) -> None:
         image = ppm_of([[RED] * 320] * 200)

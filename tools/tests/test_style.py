@@ -88,6 +88,11 @@ class Style(Folder):
         )
         self.assertEqual(told, found)
 
+    def test_one_that_fails_is_told_by_the_status_whatever_comes_after_it(self) -> None:
+        status, told, _ = self.judged(black="echo a.py; exit 1", flake8="exit 0", mypy="exit 0")
+        wanted = f"failed  black\na.py\npassed  flake8\npassed  mypy\npassed  {TYPES}\n"
+        self.assertEqual((status, told), (1, wanted))
+
     def test_all_settings_say_the_same(self) -> None:
         settings = (TOP / style.SETTINGS).read_text("utf-8")
         width = re.findall(r"^line-length = (\d+)$", settings, re.M)
