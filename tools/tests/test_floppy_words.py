@@ -93,7 +93,7 @@ class Dumped(Folder):
         hold_undone(
             self,
             run("read", image, self.folder / "reports"),
-            f"^vga-floppy: {self.folder}/reports: Is a directory\n$",
+            f"^vga-floppy: {self.folder}/reports: it is a folder\n$",
         )
         scripts = {"a/one": script_of(b"in 3CC\n", "one")}
         named = self.write("named", Machine(image_for(scripts, "it")).image)
@@ -102,6 +102,53 @@ class Dumped(Folder):
         self.assertEqual(Path(file).read_text(), "kept")
         self.assertEqual(run("read", named, self.folder / "reports"), (0, b"", ""))
         self.assertEqual((self.folder / "reports" / "a" / "one.report").read_bytes(), b"1 CC\n")
+
+
+@unittest.skipUnless(
+    Path("/proc/self/stat").exists(), "processes are looked at as Linux shows them"
+)
+class Reports(Folder):
+    """Where the reports of a folder of scripts go that an emulator runs."""
+
+    def setUp(self) -> None:
+        super().setUp()
+        texts = {"a/one": b"in 3CC\n", "two": b"in 3CE\n"}
+        for name, text in texts.items():
+            self.write(f"scripts/{name}.vga", text)
+        self.write("scripts/list.txt", "".join(f"{name}.vga -\n" for name in texts))
+        scripts = {name: script_of(text, name) for name, text in texts.items()}
+        self.left = self.write("left", Machine(image_for(scripts, "it")).image)
+        path = f"{self.folder}/bin:{os.environ['PATH']}"
+        self.patch(mock.patch.dict(os.environ, PATH=path, TMPDIR=self.temporary()))
+
+    def run_scripts(self, ending: str, *words: str | Path) -> tuple[int, bytes, str]:
+        """How the run of the scripts ends by an emulator that tells that it has begun."""
+        text = f"#!/bin/sh\necho > {self.folder}/begun\n{ending}\n"
+        self.program("bin/dosbox", text)
+        return run("run", "--on", "dosbox", self.folder / "scripts", *words)
+
+    def test_what_is_wrong_with_their_place_is_told_before_the_run(self) -> None:
+        file = self.write("file", "kept")
+        told = "name a folder for their reports"
+        scripts = f"{self.folder}/scripts"
+        for place, wanted in (
+            ("-", f"{scripts}: it has 2 scripts: {told}"),
+            (file, f"{file}: it is not a folder"),
+            (scripts, f"{scripts}: the folder has files"),
+        ):
+            done = self.run_scripts("exit 3", place)
+            hold_undone(self, done, f"^vga-floppy: {wanted}")
+        self.assertFalse((self.folder / "begun").exists())
+        self.assertEqual(Path(file).read_text(), "kept")
+
+    def test_each_has_its_report(self) -> None:
+        new = self.folder / "new"
+        hold_undone(self, self.run_scripts("exit 3", new), "it ended before the script did")
+        self.assertFalse(new.exists())
+        done = self.run_scripts(f"cp {self.left} after; mv after script.img; sleep 600", new)
+        self.assertEqual(done, (0, b"", ""))
+        told = {str(path.relative_to(new)): path.read_text() for path in new.rglob("*.report")}
+        self.assertEqual(told, {"a/one.report": "1 CC\n", "two.report": "1 CE\n"})
 
 
 class Versions(Folder):

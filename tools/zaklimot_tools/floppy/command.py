@@ -2,6 +2,8 @@
 
 import argparse
 import os
+from pathlib import Path
+from typing import Optional, Sequence
 
 from zaklimot.format import MOST_BYTES, Script
 from zaklimot_tools.core.files import STANDARD, name_of
@@ -55,18 +57,25 @@ def scripts_of(path: str) -> dict[str, Script]:
     return {os.path.splitext(name)[0]: _script(os.path.join(path, name)) for name in names}
 
 
-def _write_report(words: argparse.Namespace, run: Run, name: str) -> None:
-    names = [one.name for one in run.table.scripts()]
+def _reports_folder(
+    words: argparse.Namespace, names: Sequence[str], what: str, name: str
+) -> Optional[Path]:
+    """The folder for the reports of scripts of these names; None where there is one report, which
+    is a file. `what` stands before the number of scripts in what is told."""
     if words.report == STANDARD and len(names) != 1:
-        raise Trouble(
-            f"it has the answers of {len(names)} scripts: name a folder for their reports", name
-        )
+        raise Trouble(f"it has {what}{len(names)} scripts: name a folder for their reports", name)
     # A script of a folder has a name, and its report is a file of a folder too, be it the only one.
-    if words.report == STANDARD or names == [""]:
+    if words.report == STANDARD or [*names] == [""]:
+        check_file(words.report)
+        return None
+    return empty_folder(words.report)
+
+
+def _write_report(words: argparse.Namespace, run: Run, name: str, folder: Optional[Path]) -> None:
+    if folder is None:
         with writing(words.report) as stream:
             stream.writelines(report_lines(run, name, words.all_registers))
         return
-    folder = empty_folder(words.report)
     for report in reports(run, name, words.all_registers):
         path = folder / f"{report.name}.report"
         if ".." in path.parts or folder not in path.parents:
@@ -99,7 +108,8 @@ def read_run(words: argparse.Namespace, progress: Progress) -> None:
         raise Trouble(
             f"the record ends before the run did: {came}; --part gives the report so far", name
         )
-    _write_report(words, run, name)
+    names = [one.name for one in run.table.scripts()]
+    _write_report(words, run, name, _reports_folder(words, names, "the answers of ", name))
 
 
 def _read_pages(words: argparse.Namespace, table: Table, progress: Progress) -> Run:
@@ -125,8 +135,8 @@ def run_script(words: argparse.Namespace, _: Progress) -> None:
     """Runs a script on an emulator, and gives the report."""
     scripts = scripts_of(words.script)
     name = name_of(words.script)
-    if [*scripts] == [""]:
-        check_file(words.report)
+    # What is wrong with where reports go is told before the run.
+    folder = _reports_folder(words, [*scripts], "", name)
     machine = MACHINES[words.on]
     if words.picture is None:
         run = UnseenRuns(machine, words.bios, words.seconds).run(scripts, name)
@@ -134,4 +144,4 @@ def run_script(words: argparse.Namespace, _: Progress) -> None:
         run, picture = SeenRuns(machine, words.bios, words.seconds).run(scripts, name)
         # In the six bits of a component that the DAC has.
         save_png(words.picture, picture.picture(2 if picture.most == 255 else 0))
-    _write_report(words, run, words.on)
+    _write_report(words, run, words.on, folder)
