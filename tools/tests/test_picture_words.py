@@ -3,12 +3,13 @@ colours, and outputs that can't both be written."""
 
 import re
 import tempfile
+from argparse import ArgumentTypeError
 from unittest import mock
 
 from zaklimot_tools.core.progress import Progress
 from zaklimot_tools.picture import steps
 from zaklimot_tools.picture.cells import FONTS_AT
-from zaklimot_tools.picture.words import main
+from zaklimot_tools.picture.words import colour, main
 
 from .test_images import png
 from .test_picture import BLACK, FONT, RED, WHITE, glyph_lines, made_of, png_of, ppm_of
@@ -42,6 +43,13 @@ class Words(Folder):
             wanted = [f"{done:,} of {cells:,} cells" for done in range(1, cells + 1)] * times
             self.assertEqual(told, wanted)
             progress.clear.assert_called()
+
+    def test_colours_as_pages_have_them(self) -> None:
+        for word in ("64c8FF", "#64C8ff"):
+            self.assertEqual(colour(word), b"\x64\xc8\xff")
+        for word in ("##64C8FF", "#64C8F", "64C8FFF", "0x64C8", "64C8FG", "", "#"):
+            with self.assertRaisesRegex(ArgumentTypeError, f"^'{word}' is no colour of six hex"):
+                colour(word)
 
     def test_a_mode_in_small_letters(self) -> None:
         image = ppm_of([[RED] * 320] * 200)
