@@ -218,6 +218,18 @@ class Colours(Folder):
         drawn = sum(dots) / len(dots)
         self.assertLess(abs(mean - drawn), 1)
 
+    def test_entries_of_a_palette_that_are_clear(self) -> None:
+        # As many as the palette has, and as many as a palette may have at most.
+        ground, palette = b"\xff\xff\xff", bytes(256) + b"\xff" * 512
+        mixed = bytes(3) + ground + b"\xcc\xcc\xcc"
+        for opaque, wanted in (
+            (b"\xff\0\x33", mixed),
+            (b"\xff\0\x33".ljust(256, b"\0"), mixed),
+            (b"\0", ground + bytes(6)),
+        ):
+            data = png(3, 1, b"\0\0\1\2", colour=3, palette=palette, clear=opaque)
+            self.assertEqual(image_of(data, "i", ground=ground).rows, (wanted,))
+
     def test_six_bits_are_dithered_as_they_are(self) -> None:
         for words in ("--dither ordered", "--nearest"):
             given = ("--mode", "0D", *words.split())
