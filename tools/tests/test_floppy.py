@@ -122,7 +122,7 @@ class Interpreting(unittest.TestCase):
             # Two registers are left otherwise; and before, all have another value.
             wanted.misc, wanted.seq.registers[0] = last, 3
             state.memory.words[:], state.dac.components[:] = [0x12345678] * 0x10000, [0x15] * 768
-            state.misc = state.dac.mask = state.memory.latches = 0x54
+            state.misc, state.dac.mask, state.memory.latches = 0x54, 0x54, 0xFEDCBA98
             state.is_data = True
             banks = [part for part in vars(state).values() if isinstance(part, Bank)]
             for bank, index in (

@@ -213,6 +213,21 @@ class Scripts(Folder):
         self.assertEqual(run("read", none, self.folder / "reports"), (0, b"", ""))
 
 
+class Resetting(Folder):
+    def test_planes_are_reached_in_graphics_before_they_are_cleared(self) -> None:
+        # Emulators have another memory of text: the mode control says so before the first write.
+        cycles = machine(b"").cycles
+        first = next(at for at, cycle in enumerate(cycles) if cycle[0] == "put")
+        flip_flop, index, graphics = cycles[first - 3 : first]
+        self.assertEqual(flip_flop, ("in", 0x3DA))
+        self.assertEqual((index, graphics), (("out", 0x3C0, 0x10), ("out", 0x3C0, 1)))
+        # The clock of a PC's mode 3 and the CRT controller at 3D4 are there by then.
+        self.assertEqual(cycles[:2], [("int", 3, 0, 0, 0, 0, b""), ("out", 0x3C2, 3)])
+        self.assertEqual(
+            cycles[first:][:0x10000], [("put", 0xA0000 + at, 0) for at in range(0x10000)]
+        )
+
+
 class Lengths(Folder):
     def test_what_stands_behind_an_image_does_not_count(self) -> None:
         # A stick is longer than an image, and a copy may end after the last answer.
