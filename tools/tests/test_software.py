@@ -1,0 +1,113 @@
+"""The machines of the software that `vga-emulators record` runs on qemu: their words, their discs,
+and what is done to them."""
+
+from __future__ import annotations
+
+import gzip
+import os
+from pathlib import Path
+from unittest import mock
+
+from zaklimot_tools.dev.emulators import traces
+from zaklimot_tools.dev.emulators.traces import SOFTWARE
+from zaklimot_tools.dev.emulators.words import SOFTWARE as NAMES
+from zaklimot_tools.explain.faults import script_of
+from zaklimot_tools.floppy.image import image_for
+from zaklimot_tools.report.places import SUITE
+from zaklimot_tools.trace.recording import QemuMachine
+
+from .tools import Folder, patched, refused
+
+SEA = "VGA,romfile=/usr/share/seabios/vgabios-stdvga.bin"
+LGPL = "VGA,romfile=/usr/share/vgabios/vgabios.bin"
+
+
+class Machines(Folder):
+    def setUp(self) -> None:
+        super().setUp()
+        path = f"{self.folder}/bin:{os.environ['PATH']}"
+        self.patch(mock.patch.dict(os.environ, PATH=path))
+        self.made = self.folder / "made"
+        self.made.mkdir()
+
+    def machine(self, name: str, *packages: str) -> QemuMachine:
+        """The machine of software, with these files of unpacked packages."""
+        for file in packages:
+            self.write(f"unpacked/{file}", file)
+        return SOFTWARE[name].make(self.made, self.folder / "unpacked")
+
+    def test_the_words_tell_all_software(self) -> None:
+        self.assertEqual(list(NAMES), list(SOFTWARE))
+
+    def test_a_video_bios_draws_in_each_mode(self) -> None:
+        disc = self.made / "calls.img"
+        for name, card, mode, begins in (
+            ("calls-03-sea", SEA, 3, b""),
+            ("calls-07-lgpl", LGPL, 7, b"int ax=3\n"),
+            ("calls-12-lgpl", LGPL, 0x12, b""),
+        ):
+            machine = self.machine(name)
+            drive = ["-drive", f"file={disc},format=raw,if=ide", "-boot", "c"]
+            self.assertEqual(machine.words, ["-device", card, *drive])
+            script = f"mode-{mode:02x}-cut-by-cell.vga"
+            text = begins + (SUITE.parent / "screens" / script).read_bytes()
+            wanted = image_for({"": script_of(text, script)}, "it", is_disk=True)
+            self.assertEqual(disc.read_bytes(), wanted)
+        # Of chain 4 qemu tells by a plugin, or by another card.
+        with patched(traces, {"chain_4": lambda folder: ["-plugin", str(folder)]}):
+            words = self.machine("calls-13-sea").words
+        self.assertEqual([*words[:2], *words[-2:]], ["-device", SEA, "-plugin", str(self.made)])
+        rom = self.write("rom", "a BIOS")
+        with patched(traces, {"LGPL": rom}):
+            words = self.machine("calls-13-cirrus").words
+        self.assertEqual(words[:4], ["-L", f"{self.made}/roms", "-device", "isa-cirrus-vga"])
+        self.assertEqual((self.made / "roms" / "vgabios-cirrus.bin").read_text(), "a BIOS")
+
+    def test_a_menu_of_grub(self) -> None:
+        noting = f'#!/bin/sh\necho "$*" >> {self.folder}/notes\n'
+        self.program("bin/grub-mkrescue", noting)
+        for name, kind, keys in (
+            ("grub-text", "text", ""),
+            ("grub-planar", "planar", ""),
+            ("grub-planar-keys", "planar", "down c h e l p ret"),
+        ):
+            machine = self.machine(name)
+            disc = self.made / f"grub-{kind}.iso"
+            words = ["-device", SEA, "-cdrom", str(disc), "-boot", "d"]
+            self.assertEqual(machine.words, words)
+            # The last deed takes the screen.
+            pressed = [*((key,) for key in keys.split()), ()]
+            self.assertEqual([deed.keys for deed in machine.deeds], pressed)
+            root = self.made / f"grub-{kind}"
+            told = (self.folder / "notes").read_text().splitlines()[-1]
+            self.assertEqual(told, f"-o {disc} {root}")
+            menu = (root / "boot" / "grub" / "grub.cfg").read_text("ascii")
+            self.assertEqual("gfxmode=640x480" in menu, kind == "planar")
+            self.assertEqual(menu.count("menuentry "), 3)
+
+    def test_linux_with_its_font_and_another(self) -> None:
+        self.program("bin/cpio", "#!/bin/sh\nls -l init | cut -c1-10\ncat\n")
+        files = ("boot/vmlinuz-6.1.0", "usr/bin/busybox")
+        font = "usr/share/consolefonts/Uni2-VGA14.psf.gz"
+        self.write(f"unpacked/{font}", gzip.compress(b"a font"))
+        for name, listed in (
+            ("linux", ["bin", "bin/busybox", "dev", "init"]),
+            ("linux-font", ["bin", "bin/busybox", "dev", "font", "init"]),
+        ):
+            machine = self.machine(name, *files)
+            archive = self.made / f"{name}.initrd"
+            kernel = f"{self.folder}/unpacked/boot/vmlinuz-6.1.0"
+            words = ["-device", SEA, "-kernel", kernel, "-initrd", str(archive), "-append"]
+            self.assertEqual(machine.words[:-1], words)
+            self.assertTrue(machine.words[-1].startswith("nomodeset "))
+            mode, *names = archive.read_text().splitlines()
+            self.assertEqual((mode, names), ("-rwxr-xr-x", listed))
+        self.assertEqual((self.made / "linux-font" / "font").read_bytes(), b"a font")
+
+    def test_what_the_packages_lack(self) -> None:
+        told = refused(self.machine, "memtest")
+        self.assertEqual(told, f"{self.folder}/unpacked: there is no boot/memtest86+x64.bin")
+        words = self.machine("memtest", "boot/memtest86+x64.bin").words
+        self.assertEqual(words[2:], ["-kernel", f"{self.folder}/unpacked/boot/memtest86+x64.bin"])
+        self.assertRegex(refused(self.machine, "linux"), "there is no bin/busybox$")
+        self.assertFalse(Path(self.made, "linux.initrd").exists())
