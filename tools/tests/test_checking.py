@@ -3,10 +3,13 @@ and the status; of the library, the packages, the page, its machine, and of soft
 
 from __future__ import annotations
 
+import hashlib
 import os
+import shutil
 from collections import Counter
 from functools import partial
 from pathlib import Path
+from threading import Event
 from types import SimpleNamespace as Namespace
 from typing import Any, Callable, Optional, Sequence
 from unittest import mock
@@ -22,7 +25,7 @@ from zaklimot_tools.dev.machine_tests.manual import cases as manual_cases
 from zaklimot_tools.dev.page_tests import command as page
 from zaklimot_tools.trace.parts import TRACE
 
-from .tools import Folder, call, hold, hold_refused, hold_undone, main_of, patched
+from .tools import Folder, call, hold, hold_refused, hold_undone, main_of, patched, refused
 
 
 def found(told: str, *words: object) -> str:
@@ -229,6 +232,53 @@ class PageChecks(Folder):
     def test_whether_it_is_ready(self) -> None:
         self.assertEqual(self.run_checks("--ready"), (0, "", ""))
         self.assertEqual(self.run_checks("--only", "own", check_own=wrong)[0], 1)
+
+    def native(self, text: str, is_bytes: bool = False, most: int = 99) -> dict[str, Any]:
+        """What the module is told of a case that this program runs."""
+        program = Path(self.program("vga", f"#!/bin/sh\n{text}\n"))
+        case: Any = Namespace(
+            name="a/one",
+            is_bytes=is_bytes,
+            fonts="fonts.fnt",
+            script=lambda: b"VGAS\1",
+            stopped_script=lambda: b"frame\n",
+        )
+        top = self.folder / "cases"
+        shutil.rmtree(top, ignore_errors=True)
+        top.mkdir()
+        with patched(page, {"PROGRAM": program, "MOST_KEPT": most}):
+            return page._native(top, Event(), (7, case))
+
+    def test_what_the_module_is_to_answer(self) -> None:
+        # The program answers its own words, and a text it assembles and prints too.
+        answers = 'case "$1" in asm) /bin/cp "$2" "$3" ;; *) echo "$1 ${2##*/} $3 $4" ;; esac'
+        told = self.native(answers)
+        report = Path(told["report"])
+        self.assertEqual(report.read_text(), "go script --fonts fonts.fnt\n")
+        self.assertEqual(
+            (told["name"], told["isBytes"], told["length"]),
+            ("a/one", False, len("go script ") + 18),
+        )
+        self.assertEqual(told["sha256"], hashlib.sha256(report.read_bytes()).hexdigest())
+        self.assertEqual(Path(told["assembled"]).read_bytes(), b"frame\n")
+        self.assertEqual(Path(told["printed"]).read_text(), "dis script.bin  \n")
+        told = self.native(answers, is_bytes=True)
+        self.assertEqual(Path(told["report"]).read_text(), "run script --fonts fonts.fnt\n")
+        self.assertEqual(Path(told["script"]).read_bytes(), b"VGAS\1")
+        self.assertNotIn("assembled", told)
+        # Of a longer report the sum is enough.
+        for most, is_kept in ((28, True), (27, False)):
+            told = self.native(answers, most=most)
+            self.assertEqual((told["length"], "report" in told), (28, is_kept))
+            self.assertEqual(len(list((self.folder / "cases").rglob("report"))), is_kept)
+
+    def test_a_fault_is_the_report(self) -> None:
+        told = self.native("echo noise >&2; echo 'vga: F7 BadLine(1)' >&2; exit 1")
+        self.assertEqual(Path(told["report"]).read_text(), "F7 BadLine(1)\n")
+        self.assertNotIn("assembled", told)
+        with patched(page, {"PROGRAM": self.folder / "none"}):
+            told_of_none = refused(page.check_suite, Path("module"), self.folder / "made")
+        self.assertRegex(told_of_none, f"^{self.folder}/none: the program isn't built: ")
 
     def test_what_the_heap_tells(self) -> None:
         told = '{"rounds": 12345, "grown": 3145728, "cards": %d}'
