@@ -89,6 +89,39 @@ class Starting(Programs):
             self.assertIn(" -serial file:record ", words)
             self.assertIn("file=script.img,if=floppy,format=raw,cache=writethrough", words)
 
+    def test_the_files_that_emulators_read(self) -> None:
+        # Bochs draws as few pictures as can be, and its debugger begins the run.
+        for is_seen, updates in ((False, 1), (True, 5)):
+            words = self.words("bochs", None, is_seen)
+            self.assertEqual(words, ["bochs", "-q", "-f", "bochsrc", "-rc", "commands"])
+            text = (self.folder / "bochsrc").read_text("ascii")
+            for line in (
+                f"vga: extension=none, update_freq={updates}",
+                "floppya: 1_44=script.img, status=inserted",
+                "com1: enabled=1, mode=file, dev=record",
+                "romimage: file=/usr/share/bochs/BIOS-bochs-legacy",
+            ):
+                self.assertIn(f"\n{line}\n", text)
+        self.assertEqual((self.folder / "commands").read_text(), "c\n")
+        self.assertEqual(self.words("dosbox", None), ["dosbox", "-conf", "dosbox.conf"])
+        text = (self.folder / "dosbox.conf").read_text("ascii")
+        self.assertTrue(text.endswith("\n[autoexec]\nboot script.img\n"))
+        self.assertIn("\nmachine=vgaonly\n", text)
+
+    def test_what_an_emulator_finds_around_it(self) -> None:
+        # No display of the user's, no sound, and none of the user's files.
+        given = {"DISPLAY": ":0", "WAYLAND_DISPLAY": "w", "XAUTHORITY": "x", "SOME": "other"}
+        names = ("DISPLAY", "WAYLAND_DISPLAY", "XAUTHORITY", "SOME", "SDL_VIDEODRIVER")
+        with mock.patch.dict(os.environ, given):
+            for display, wanted in (
+                (None, [None, None, None, "other", "dummy"]),
+                (":7", [":7", None, None, "other", "x11"]),
+            ):
+                found = running.environment(self.folder, display)
+                self.assertEqual([found.get(name) for name in names], wanted)
+                self.assertEqual(found["SDL_AUDIODRIVER"], "dummy")
+                self.assertEqual((found["HOME"], found["TERM"]), (str(self.folder), "dumb"))
+
     def test_a_bios_that_is_not_installed(self) -> None:
         self.shell(MACHINES["qemu"].program, "exit")
         path = f"{self.folder}/none.bin"
