@@ -13,12 +13,19 @@ from unittest import mock
 from zaklimot_tools.core.progress import Progress
 from zaklimot_tools.explain.faults import script_of
 from zaklimot_tools.floppy import rows, running
-from zaklimot_tools.floppy.image import Run, image_for, read_image, read_record, report_lines
+from zaklimot_tools.floppy.image import (
+    Run,
+    has_ended,
+    image_for,
+    read_image,
+    read_record,
+    report_lines,
+)
 from zaklimot_tools.floppy.running import MACHINES, PackagedFile
 from zaklimot_tools.floppy.table import Table, table_for
 from zaklimot_tools.images import others
 
-from .floppy import ANSWERS, Machine, line, machine, row
+from .floppy import ANSWERS, MARK, Machine, line, machine, row
 from .test_beside import BOTH, bmp
 from .tools import (
     TOOLS,
@@ -319,6 +326,33 @@ class Runs(Folder):
             self.assertEqual(refused(lambda: list(report_lines(Run(table, answers), "it"))), told)
         self.assertEqual(list(report_lines(Run(table, b"\1"), "it")), [b"1 01\n"])
 
+    def test_a_word_that_reaches_input_status_1(self) -> None:
+        # It is read, and its answer left out: the beam's position hangs on the time.
+        booted = machine(b"inw 3D9\ninw 3DA\ninw 3DB\nin 3DB\nin 3BA\ninw 3B9\nin 3B9\n")
+        told = b"".join(report_lines(read_image(booted.image, "it"), "it"))
+        answers = ["skipped", "skipped", "DCDB", "DB", "skipped", "skipped", "B9"]
+        wanted = "".join(f"{number} {answer}\n" for number, answer in enumerate(answers, 1))
+        self.assertEqual(told.decode(), wanted)
+        read = [place for name, place, *_ in booted.cycles[-11:] if name == "in"]
+        pairs = [0x3D9, 0x3DA, 0x3DA, 0x3DB, 0x3DB, 0x3DC, 0x3DB, 0x3BA, 0x3B9, 0x3BA, 0x3B9]
+        self.assertEqual(read, pairs)
+
+    def test_whether_a_run_has_ended(self) -> None:
+        left = machine(b"in 3CC\n").image
+        hold(
+            self,
+            lambda data: has_ended(Path(self.write("image", data))),
+            (
+                (left, True),
+                (left[: MARK + 8], True),
+                (left[: MARK + 7], False),
+                (image_for({"": script_of(b"in 3CC\n", "it")}, "it"), False),
+                (b"", False),
+            ),
+        )
+        self.assertFalse(has_ended(self.folder / "none"))
+        self.assertFalse(has_ended(self.folder))
+
     def test_a_call_at_the_end_of_the_dac(self) -> None:
         # Function 10 with AL 17 reads up to the last entry, and no farther.
         def answers(numbers: str) -> bytes:
@@ -346,6 +380,19 @@ class Texts(Folder):
             with mock.patch.object(others, "pillow", lambda: None):
                 told = refused(rows.read_file, path)
         self.assertEqual(told, f"{path}: tesseract can't read it: it said nothing")
+
+    def test_rows_of_files_that_contradict_one_another(self) -> None:
+        image = self.write("image", machine(b"in 3CC\n" * 30).image)
+        pairs = (
+            (row(0, bytes(22)), row(0, b"\1" * 22)),
+            (row(0x8001, bytes(2)), row(0x8001, b"\0\1")),
+            (row(0xFFFF, bytes(8)), row(0xFFFF, b"\1" * 8)),
+        )
+        for one, other in pairs:
+            paths = [self.write(f"{name}.txt", text) for name, text in (("b", one), ("a", other))]
+            done = run("read", image, *(f"--pages={path}" for path in paths))
+            told = f"^vga-floppy: {paths[1]}: the row has other bytes than the same row before\n$"
+            hold_undone(self, done, told)
 
     def test_bytes_of_a_picture_that_would_be_a_text(self) -> None:
         # A reader of text sees a row in it, and its own bytes have others.
