@@ -6,6 +6,7 @@ from __future__ import annotations
 import unittest
 from dataclasses import replace
 
+from zaklimot.format import Step
 from zaklimot_tools.picture.cells import (
     BLANK_ATTRIBUTE,
     Chosen,
@@ -17,6 +18,7 @@ from zaklimot_tools.picture.cells import (
 from zaklimot_tools.picture.cells import _wanted
 from zaklimot_tools.picture.colours import Colour, Indexed
 from zaklimot_tools.picture.mode import MODES, text_of
+from zaklimot_tools.picture.steps import Item
 
 from .test_picture import BLACK, WHITE
 from .tools import hold
@@ -28,6 +30,12 @@ BLANK = Chosen(0, 0x20, BLANK_ATTRIBUTE)
 def cell_of(glyph: bytes) -> list[bytes]:
     """The rows of a cell whose ink is colour 1."""
     return [bytes([*(byte >> 7 - x & 1 for x in range(8)), 0]) for byte in glyph]
+
+
+def told_of(item: Item) -> tuple[tuple[int, ...], bytes, int]:
+    """The numbers of a step, its block and its cycles."""
+    assert isinstance(item.step, Step)
+    return item.step.numbers, item.step.block, item.cycles
 
 
 class Own(unittest.TestCase):
@@ -103,10 +111,8 @@ class Loading(unittest.TestCase):
     def test_characters_side_by_side_are_loaded_at_once(self) -> None:
         # In AX, BX, CX and DX, with the cycles of the glyphs alone.
         glyphs = {7: b"7" * 8, 3: b"3" * 8, 4: b"4" * 8}
-        steps = [(item.step, item.cycles) for item in loading(text_of(50), glyphs)]
-        told = [(step.numbers, step.block, cycles) for step, cycles in steps]  # type: ignore
         self.assertEqual(
-            told,
+            [told_of(item) for item in loading(text_of(50), glyphs)],
             [
                 ((0x1112, 0, 0, 0), b"", 34 + 256 * 8),
                 ((0x1110, 0x0800, 2, 3), b"3" * 8 + b"4" * 8, 34 + 16),
@@ -114,8 +120,9 @@ class Loading(unittest.TestCase):
             ],
         )
         self.assertEqual(list(loading(text_of(25), {})), [])
-        (rows,) = loading(text_of(28), {})
-        self.assertEqual(rows.step.numbers[0], 0x1111)  # type: ignore[union-attr]
+        self.assertEqual(
+            list(map(told_of, loading(text_of(28), {}))), [((0x1111, 0, 0, 0), b"", 34 + 256 * 14)]
+        )
 
 
 class Strings(unittest.TestCase):
@@ -127,8 +134,8 @@ class Strings(unittest.TestCase):
         ]
         told = []
         for item in typed_cells(cells, columns):
-            numbers = item.step.numbers  # type: ignore[union-attr]
-            if item.step.name == "int":  # type: ignore[union-attr]
+            numbers = told_of(item)[0]
+            if len(numbers) == 4:
                 told.append(f"{numbers[3]:04X}+{numbers[2]}")
             else:
                 told.append(f"{numbers[0]:X}={numbers[1]:04X}")
