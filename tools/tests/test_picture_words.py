@@ -51,6 +51,35 @@ class Words(Folder):
             with self.assertRaisesRegex(ArgumentTypeError, f"^'{word}' is no colour of six hex"):
                 colour(word)
 
+    def test_what_is_told_of_text(self) -> None:
+        # How many glyphs of its own it has is told where they are asked for, and in the comments.
+        image = ppm_of([[RED] * 720] * 400)
+        for words, told, comment in (
+            ("", ", 2,000 of 2,000 cells fit; ", None),
+            ("--own-glyphs", ", 2,000 of 2,000 cells fit, 0 glyphs of its own; ", None),
+            (
+                "--rows 50",
+                ", 4,000 of 4,000 cells fit; ",
+                "Text of 50 rows, and 0 glyphs of its own",
+            ),
+        ):
+            line, script = made_of(image, "--mode", "3", *words.split())
+            self.assertIn(told, line)
+            comments = re.findall(r"^; (Text of .*)$", script.decode(), re.M)
+            self.assertEqual(comments, [] if comment is None else [comment], words)
+
+    def test_the_comments_of_a_script_of_pixels(self) -> None:
+        # Three colours, of which each word has all: numbers that no colour has don't count.
+        dots = [[RED, WHITE, BLACK] * 106 + [RED, WHITE] for _ in range(200)]
+        dots[199][0] = WHITE
+        for words, what in (("", "the pixels"), ("--short", "the rest")):
+            script = made_of(ppm_of(dots), "--mode", "0D", *words.split())[1].decode()
+            comments = [line for line in script.splitlines() if line.startswith("; ")]
+            self.assertIn(" 320 by 200 pixels and 3 colours, in mode 0D, ", comments[0])
+            rest = script.partition(f" cycles for {what}\n")[2]
+            count = len(re.findall("^(?:putw?|outw) ", rest, re.M))
+            self.assertEqual(comments[-2:], [f"; {count} cycles for {what}", "; The picture"])
+
     def test_a_mode_in_small_letters(self) -> None:
         image = ppm_of([[RED] * 320] * 200)
         self.assertEqual(made_of(image, "--mode", "0d"), made_of(image, "--mode", "0D"))
