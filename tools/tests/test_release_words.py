@@ -186,47 +186,6 @@ class Commits(Folder):
         self.assertEqual(release.made_of(COMMIT, "a kit", built), File(told.encode()))
 
 
-class Whole(Folder):
-    def test_what_is_built_stands_beside_the_files_of_the_commit(self) -> None:
-        program = Path(self.write("program", "proved"))
-
-        def laid(files: dict[str, Entry], target: Target, archive: Path) -> dict[str, Entry]:
-            self.assertEqual(list(files), ["README.md", "docs/X.md"])
-            return {f"{target.name}/lib": File(archive.name.encode())}
-
-        def scripts(words: list[object]) -> None:
-            self.assertEqual(words[2], "scripts")
-            folder = Path(str(words[3]))
-            folder.mkdir()
-            (folder / "list.txt").write_text("cases")
-
-        page = File(b"[x](docs/X.md) [code](crates/vga/src/main.rt)")
-        given = {"README.md": page, "docs/X.md": File(b"[front](../README.md)")}
-        made = {
-            "files_of": lambda commit, paths: given if paths == release.PATHS else None,
-            "library_files": laid,
-            "run": scripts,
-            "kit_line": lambda: "a kit",
-        }
-        archives = {X86_64: Path("x.a"), AARCH64: Path("a.a")}
-        with patched(release, made):
-            found = release.release_entries(COMMIT, program, archives)
-        self.assertEqual(found["bin/vga"], File(b"proved", True))
-        self.assertEqual(found["scripts/list.txt"], File(b"cases"))
-        self.assertEqual(found["x86_64/lib"], File(b"x.a"))
-        self.assertEqual(found["aarch64/lib"], File(b"a.a"))
-        self.assertEqual(found["docs/README.md"], File(b"[x](X.md) code"))
-        self.assertEqual(found["docs/X.md"], File(b"[front](README.md)"))
-        own = found[release.INSTALL]
-        assert isinstance(own, File)
-        self.assertTrue(own.content.startswith(b"#!/bin/sh\n") and own.is_executable)
-        built: dict[str, Entry] = {
-            name: found[name] for name in ("bin/vga", "x86_64/lib", "aarch64/lib")
-        }
-        self.assertEqual(found[release.MADE_OF], release.made_of(COMMIT, "a kit", built))
-        self.assertEqual({name: found[name] for name in release.LINKS}, dict(release.LINKS))
-
-
 class Steps(Folder):
     def make(
         self, count: int, library: Optional[Path] = None
