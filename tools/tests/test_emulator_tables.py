@@ -52,12 +52,10 @@ class Tables(Folder):
 
     def test_a_column_for_each_emulator(self) -> None:
         differs = case("a/2", "differs", 4, differing=3, answered="1 2 3", expected="1 5 4")
-        one = self.results(
-            "one",
-            "--on qemu",
-            rule("First.", case("a/1", "agrees", 1000)),
-            rule("Second.", case("a/1", "failed"), differs),
+        first, second = rule("First.", case("a/1", "agrees", 1000)), rule(
+            "Second.", case("a/1", "failed"), differs
         )
+        one = self.results("one", "--on qemu", first, second)
         two = self.results(
             "two",
             "--on=bochs",

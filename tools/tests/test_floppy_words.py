@@ -202,7 +202,8 @@ class Scripts(Folder):
     def test_a_folder_without_a_list_and_one_that_lists_nothing(self) -> None:
         (self.folder / "scripts").mkdir()
         scripts = self.folder / "scripts"
-        hold_undone(self, run("make", scripts, "-"), f"^vga-floppy: {scripts}: Is a directory\n$")
+        told = f"^vga-floppy: {scripts}: it is a folder without list.txt, which `vga-report scripts`"
+        hold_undone(self, run("make", scripts, "-"), told)
         self.write("scripts/list.txt", "gone.vga -\n")
         hold_undone(
             self,

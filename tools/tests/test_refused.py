@@ -126,7 +126,7 @@ REFUSED = {
     "trace convert {t} {o}/script": "vga-trace: {o}: there is no such folder\n",
     "picture script {o} - --mode 13": "vga-picture: {o}: No such file or directory\n",
     "floppy make {o} {d}/image": "vga-floppy: {o}: No such file or directory\n",
-    "floppy make {d} {o}": "vga-floppy: {d}: Is a directory\n",
+    "floppy make {d} {o}": "vga-floppy: {d}: it is a folder without list.txt, which",
     "floppy make {move} {o}": MOVE,
     "floppy make {move} {o}": MOVE,
     "floppy run --on dosbox {move}": MOVE,

@@ -116,13 +116,8 @@ class Entries(Folder):
             return {f"{target.name}/lib": File(archive.read_bytes()), f"{target.name}/so": "lib"}
 
         program, archive = Path(self.write("vga", "program")), Path(self.write("a", "archive"))
-        faked = {
-            "files_of": files_of,
-            "run": run,
-            "library_files": library_files,
-            "kit_line": lambda: "kit 7",
-        }
-        with patched(release, faked):
+        faked = {"files_of": files_of, "run": run, "library_files": library_files}
+        with patched(release, {**faked, "kit_line": lambda: "kit 7"}):
             entries = release.release_entries(COMMIT, program, {X86_64: archive, AARCH64: archive})
         self.assertEqual(asked, [(COMMIT, release.PATHS)])
         self.assertEqual(entries["bin/vga"], File(b"program", True))
