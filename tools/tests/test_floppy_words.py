@@ -202,7 +202,7 @@ class Scripts(Folder):
     def test_a_folder_without_a_list_and_one_that_lists_nothing(self) -> None:
         (self.folder / "scripts").mkdir()
         scripts = self.folder / "scripts"
-        told = f"^vga-floppy: {scripts}: it is a folder without list.txt, which `vga-report scripts`"
+        told = f"^vga-floppy: {scripts}: it is a folder without list.txt, which `vga-report"
         hold_undone(self, run("make", scripts, "-"), told)
         self.write("scripts/list.txt", "gone.vga -\n")
         hold_undone(
