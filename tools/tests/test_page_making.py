@@ -13,9 +13,11 @@ from typing import Any, Optional
 from unittest import mock
 
 from zaklimot_tools.core.progress import Progress
-from zaklimot_tools.dev.page import command, machine, making
+from zaklimot_tools.core.trouble import Wrong
+from zaklimot_tools.dev.page import command, editor, machine, making, sections
 from zaklimot_tools.dev.page.machine import MachineModules
 from zaklimot_tools.dev.page.making import check_module, kit_of, with_kit
+from zaklimot_tools.dev.page.packing import in_base64, packed, unzipped
 
 from .test_page import NATIVE, Modules, module_of
 from .tools import Folder, call, hold, main_of, patched, refused, run_tool
@@ -353,3 +355,96 @@ class Forms(Folder):
             self.assertEqual(call(main_of("vga-page"), "module", path)[0], 0)
         self.assertEqual(path.read_bytes(), RIGHT)
         self.assertEqual(asked, [(2 << 20, False, None), (None, False, None)])
+
+
+class Blocks(Folder):
+    def test_the_blocks_of_a_text(self) -> None:
+        text = """One *slanted*, **bold `x|y`** and
+two [a `b`](C.md#d).
+
+- first
+  goes on
+* second
+
+1. one
+2. two
+
+| A | B |
+|---|---|
+| `a\\|b` | c |
+
+    put A0000 1
+      get A0000
+
+```
+frame
+
+end
+```
+![a picture](x.png)
+
+*Shown by* `y`.
+## Last ##
+"""
+        link = ["a", "C.md#d", ["a ", ["code", ["b"]]]]
+        bold = ["b", ["bold ", ["code", ["x|y"]]]]
+        self.assertEqual(
+            sections.blocks(text),
+            [
+                ["p", ["One ", ["i", ["slanted"]], ", ", bold, " and two ", link, "."]],
+                ["ul", ["first goes on"], ["second"]],
+                ["ol", ["one"], ["two"]],
+                ["table", [["A"], ["B"]], [[["code", ["a|b"]]], ["c"]]],
+                ["pre", "put A0000 1\n  get A0000"],
+                ["pre", "frame\n\nend"],
+                ["h", ["Last ##"]],
+            ],
+        )
+        anchors = [
+            sections.anchor_of(word) for word in ("`int` 10: A_b, c", "3C0, 3C1", "\u00dcber")
+        ]
+        self.assertEqual(anchors, ["int-10-a_b-c", "3c0-3c1", "ber"])
+
+    def test_sections_end_at_the_next_of_their_rank(self) -> None:
+        text = "# T\n\nt\n\n## A\n\na\n\n### B\n\nb\n\n#### C\n\nc\n\n### D\n\nd\n\n## E\n"
+        found = sections.sections_of(text)
+        texts = {
+            anchor: [part[1][0] for part in section["blocks"]] for anchor, section in found.items()
+        }
+        self.assertEqual(
+            texts,
+            {
+                "t": ["t"],
+                "a": ["a", "B", "b", "C", "c", "D", "d"],
+                "b": ["b", "C", "c"],
+                "c": ["c"],
+                "d": ["d"],
+                "e": [],
+            },
+        )
+
+    def test_parts_that_are_not_packed_as_they_should_be(self) -> None:
+        whole = in_base64(packed(b"data"))
+        self.assertEqual(unzipped(whole), b"data")
+        self.assertEqual(packed(b"data"), packed(b"data"))
+        for text in (whole[:-8], "!" + whole[1:], in_base64(b"data")):
+            told = "^a part of the page is not packed as it should be: "
+            self.assertRaisesRegex(Wrong, told, unzipped, text)
+        with mock.patch("zaklimot_tools.dev.page.packing.MOST_UNPACKED", 4):
+            self.assertEqual(unzipped(whole), b"data")
+            told = refused(unzipped, in_base64(packed(b"data!")))
+        self.assertEqual(told, "the page: a part of it unpacks to more than 4 bytes")
+
+    def test_who_holds_the_copyright_of_the_editor(self) -> None:
+        text = (
+            "Files: *\nCopyright: 2017 A\nLicense: Expat\n\nLicense: Expat\n Free.\n .\n As is.\n"
+        )
+        path = Path(self.write("copyright", text))
+        with mock.patch.object(editor, "COPYRIGHT", path):
+            self.assertEqual(editor.licence(), "Copyright 2017 A\n\nFree.\n\nAs is.")
+            for lacking in ("Files: *\n", " Free.\n .\n As is.\n"):
+                path.write_text(text.replace(lacking, ""))
+                self.assertEqual(
+                    refused(editor.licence),
+                    f"{path}: it has no copyright or no licence of all files",
+                )
