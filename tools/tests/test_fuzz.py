@@ -175,6 +175,31 @@ class Fuzzing(Folder):
                 self.fed(given, path), f"vga {first} answers done, vga {name} F7 BadLine(1)"
             )
 
+    def test_what_all_commands_refuse(self) -> None:
+        # The fault has its place.
+        for given, first, fault, other in (
+            (Feed(False, b"move", "script"), "run", "F2 BadMagic", "F3 BadVersion"),
+            (Feed(False, b"VGAS\1\xff", "script"), "run", "F4 BadStep(5)", "F4 BadStep(6)"),
+            (Feed(True, b"frame\nmove\n", "text"), "go", "F7 BadLine(2)", "F7 BadLine(1)"),
+        ):
+            told = f"vga {first} answers {other}, and not {fault}"
+            for said, wanted in ((fault, fault), (other, told)):
+                path = self.program("refusing", f"import sys\nsys.exit('vga: {said}')\n")
+                self.assertEqual(self.fed(given, path), wanted)
+
+    def test_a_script_of_an_input_before_is_none_of_this_one(self) -> None:
+        (self.folder / "script").write_bytes(SCRIPT.data)
+        writing = 'open(sys.argv[3], "wb").write('
+        self.assertIn(writing, GOOD)
+        path = self.program("program", GOOD.replace(writing, "bytes(", 1))
+        told = "vga asm: status 0, and it has written no script"
+        self.assertEqual(self.fed(TEXT, path), told)
+        # Nor is what is printed one that can't be assembled.
+        ends = "if command == 'asm': sys.exit('vga: F7 BadLine(1)')\ndata ="
+        path = self.program("program", GOOD.replace("data =", ends, 1))
+        told = "vga asm: what vga dis prints spells another script"
+        self.assertEqual(self.fed(SCRIPT, path), told)
+
     def test_a_report_that_fills_its_room(self) -> None:
         full = (
             "\n    try:\n        for n in range(1, 100000): sys.stdout.buffer.write(b'%d 55\\n' %"

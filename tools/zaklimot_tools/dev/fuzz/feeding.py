@@ -47,6 +47,13 @@ class Fed(NamedTuple):
         raise Wrong(f"{ended}, and it says {self.said[:100]!r}")
 
 
+class Assembled(NamedTuple):
+    """How a text was assembled, and its script, if it is one."""
+
+    fed: Fed
+    script: Optional[bytes]
+
+
 def meant_by(read: Callable[[bytes], Script], data: bytes) -> tuple[str, Script]:
     """What the program is to answer to bytes or a text that are read so, a fault or `done`; and the
     script that they are."""
@@ -122,15 +129,14 @@ class Program:
         wanted, meant = meant_by(parse_text if given.is_text else decode, given.data)
         ran = self._ran(first, file, wanted, meant)
         if given.is_text:
-            script = self._folder / "script"
-            made = self._done("asm", file, script)
-            if made.answer != DONE:
+            made, script = self._asm(file)
+            if script is None:
                 _agree(first, ran, "asm", made)
                 return ran.answer
-            if meant_by(decode, script.read_bytes())[1] != meant:
+            if meant_by(decode, script)[1] != meant:
                 raise Wrong("vga asm: the script has other steps than the text")
-            _agree(first, ran, "run", self._ran("run", script, wanted, meant))
-            file = self._file("input", script.read_bytes())
+            file = self._file("input", script)
+            _agree(first, ran, "run", self._ran("run", file, wanted, meant))
         printed = self._done("dis", file)
         if printed.answer != DONE:
             _agree(first, ran, "dis", printed)
@@ -143,13 +149,18 @@ class Program:
 
     def assembled(self, text: bytes) -> Optional[bytes]:
         """The script of a text, if it is one."""
+        return self._asm(self._file("text", text)).script
+
+    def _asm(self, file: Path) -> Assembled:
         script = self._folder / "script"
+        # What an input before has left is no script of this one.
         script.unlink(missing_ok=True)
-        if self._done("asm", self._file("text", text), script).answer != DONE:
-            return None
+        made = self._done("asm", file, script)
+        if made.answer != DONE:
+            return Assembled(made, None)
         if not script.exists():
             raise Wrong("vga asm: status 0, and it has written no script")
-        return script.read_bytes()
+        return Assembled(made, script.read_bytes())
 
     def _file(self, name: str, data: bytes) -> Path:
         path = self._folder / name
