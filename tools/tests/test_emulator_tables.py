@@ -25,6 +25,24 @@ def rule(text: str, *cases: dict[str, Any]) -> dict[str, Any]:
     return {"rule": text, "folder": str(cases[0]["name"]).partition("/")[0], "cases": list(cases)}
 
 
+# The cells of the rows of two emulators. Of a rule the first case that differs or fails is named.
+ROWS = [
+    ["", "qemu", "bochs"],
+    ["cases that agree", "1", "2"],
+    ["cases of which a part or all was skipped, and the rest agrees", "0", "1"],
+    ["cases that differ", "1", "0"],
+    ["cases whose run failed", "1", "1"],
+    ["bytes, words and registers compared", "1,004", "507"],
+    ["of these as expected", "1,001", "507"],
+    ["Folder: cases that agree, are skipped, differ", "qemu", "bochs"],
+    ["`a/`", "1, 0, 2", "1, 0, 1"],
+    ["`b/`", "0, 0, 0", "1, 1, 0"],
+    ["Rule of the suite", "Case", "qemu", "bochs"],
+    ["First.", "`a/1`", "same", "fails"],
+    ["Second.", "`a/1`", "fails", "same"],
+]
+
+
 class Tables(Folder):
     def setUp(self) -> None:
         super().setUp()
@@ -52,9 +70,12 @@ class Tables(Folder):
 
     def test_a_column_for_each_emulator(self) -> None:
         differs = case("a/2", "differs", 4, differing=3, answered="1 2 3", expected="1 5 4")
-        first = rule("First.", case("a/1", "agrees", 1000))
-        second = rule("Second.", case("a/1", "failed"), differs)
-        one = self.results("one", "--on qemu", first, second)
+        one = self.results(
+            "one",
+            "--on qemu",
+            rule("First.", case("a/1", "agrees", 1000)),
+            rule("Second.", case("a/1", "failed"), differs),
+        )
         two = self.results(
             "two",
             "--on=bochs",
@@ -67,31 +88,10 @@ class Tables(Folder):
         self.assertIn("\n\nCompared were qemu q 1, bochs b 1.\n\n", text)
         self.assertTrue(text.startswith(f"Before.\r\n{FIRST_MARK}\n\n"))
         self.assertTrue(text.endswith(f"\n\n{LAST_MARK}\nAfter.\xe9"))
-        self.assertEqual(
-            self.rows(),
-            [
-                ["", "qemu", "bochs"],
-                ["cases that agree", "1", "2"],
-                ["cases of which a part or all was skipped, and the rest agrees", "0", "1"],
-                ["cases that differ", "1", "0"],
-                ["cases whose run failed", "1", "1"],
-                ["bytes, words and registers compared", "1,004", "507"],
-                ["of these as expected", "1,001", "507"],
-                ["Folder: cases that agree, are skipped, differ", "qemu", "bochs"],
-                ["`a/`", "1, 0, 2", "1, 0, 1"],
-                ["`b/`", "0, 0, 0", "1, 1, 0"],
-                ["Rule of the suite", "Case", "qemu", "bochs"],
-                # Of a rule the first case that differs or fails is named.
-                ["First.", "`a/1`", "same", "fails"],
-                ["Second.", "`a/1`", "fails", "same"],
-            ],
-        )
-
-    def test_a_page_that_is_made_once_more_is_the_same(self) -> None:
-        one = self.results("one", "--on qemu", rule("First.", case("a/1", "agrees", 1000)))
-        self.assertEqual(self.table(one), (0, "", ""))
+        self.assertEqual(self.rows(), ROWS)
+        # Made once more the page is the same.
         before = self.page.read_bytes()
-        self.assertEqual(self.table(one), (0, "", ""))
+        self.assertEqual(self.table(one, two), (0, "", ""))
         self.assertEqual(self.page.read_bytes(), before)
 
     def test_rules_that_one_is_not_asked(self) -> None:

@@ -357,9 +357,8 @@ class Forms(Folder):
         self.assertEqual(asked, [(2 << 20, False, None), (None, False, None)])
 
 
-class Blocks(Folder):
-    def test_the_blocks_of_a_text(self) -> None:
-        text = """One *slanted*, **bold `x|y`** and
+# A text with each kind of block.
+TEXT = """One *slanted*, **bold `x|y`** and
 two [a `b`](C.md#d).
 
 - first
@@ -386,10 +385,14 @@ end
 *Shown by* `y`.
 ## Last ##
 """
+
+
+class Blocks(Folder):
+    def test_the_blocks_of_a_text(self) -> None:
         link = ["a", "C.md#d", ["a ", ["code", ["b"]]]]
         bold = ["b", ["bold ", ["code", ["x|y"]]]]
         self.assertEqual(
-            sections.blocks(text),
+            sections.blocks(TEXT),
             [
                 ["p", ["One ", ["i", ["slanted"]], ", ", bold, " and two ", link, "."]],
                 ["ul", ["first goes on"], ["second"]],
