@@ -358,7 +358,7 @@ def of_own_glyphs() -> Iterator[Case]:
     ]
     image = ppm_of([line * 80] * 400)
     line[3] = (60, 0, 0)
-    told = " 3 colours, 0 of 2,000 cells fit, 1 glyphs of its own; "
+    told = " 3 colours, 0 of 2,000 cells fit, 1 glyph of its own; "
     yield Case(image, "--mode 3 --own-glyphs", told, ppm_of([line * 80] * 400))
     # In C0 to DF the ninth dot is the eighth, so these characters keep their glyphs, and so does
     # the blank.
@@ -455,8 +455,8 @@ class Drawing(Folder):
                 "; A picture of 320 by 200 pixels and 3 colours, in mode 0D, made by vga-picture."
                 " Numbers are hexadecimal, but the count of `repeat`.",
                 "; Its colours, six bits a component",
-                "; 1 areas of one colour",
-                "; 1 times rows of cells that are alike: go down by a row, draw the first",
+                "; 1 area of one colour",
+                "; 1 time rows of cells that are alike: go down by a row, draw the first",
                 "; 1 cycles for the rest",
                 "; The picture",
             ],

@@ -94,14 +94,14 @@ def draw_text(
         glyphs = own_glyphs(image, mode, cells)
         font = with_glyphs(font, glyphs)
         cells = cells_of(image, mode, font, tell)
-        told = f", {len(glyphs):,} glyphs of its own"
+        told = f", {counted(len(glyphs), 'glyph', ',')} of its own"
     told = f", {sum(cell.error == 0 for cell in cells):,} of {len(cells):,} cells fit{told}"
     # In frames 16 to 31 of 32 a blinking character is away, and its background has three bits.
     calls = [service(6, 0x1003), service(4, 0x0100, 0, NO_CURSOR)]
     steps = typed_cells(cells, mode.columns) if is_short else put_cells(cells)
     parts = [
         Part(
-            f"Text of {mode.rows} rows, and {len(glyphs)} glyphs of its own",
+            f"Text of {mode.rows} rows, and {counted(len(glyphs), 'glyph')} of its own",
             list(loading(mode, glyphs)),
         ),
         Part("No blinking, but bright backgrounds; no cursor", calls),

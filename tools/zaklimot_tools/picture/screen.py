@@ -20,6 +20,7 @@ from itertools import chain, combinations, takewhile
 from typing import Iterator, Mapping, NamedTuple, Optional, Sequence
 
 from zaklimot import format
+from zaklimot_tools.core.streams import counted
 from zaklimot_tools.trace.state import FIRST_ADDRESS as WINDOW, PLANES, map_mask
 from zaklimot_tools.trace.trace import ALL_PLANES
 
@@ -316,10 +317,11 @@ class Areas:
     def parts(self) -> Iterator[Part]:
         """Steps for the areas, which are drawn then."""
         rectangles = list(self._rectangles())
-        yield Part(f"{len(rectangles)} areas of one colour", rectangles)
+        yield Part(f"{counted(len(rectangles), 'area')} of one colour", rectangles)
         bands = list(self._bands())
         yield Part(
-            f"{len(bands)} times rows of cells that are alike: go down by a row, draw the first",
+            f"{counted(len(bands), 'time')} rows of cells that are alike: go down by a row, draw"
+            " the first",
             bands,
         )
 
