@@ -388,6 +388,18 @@ class Files(Seen):
         self.assertEqual(png_rows((pages / "page-0107.png").read_bytes()), shown)
         self.assertNotEqual(png_rows((pages / "page-0000.png").read_bytes()), shown)
 
+    def test_a_picture_that_a_page_or_a_plane_would_write_over(self) -> None:
+        folder = self.folder / "all"
+        folder.mkdir()
+        for name, option in (("page-0000.png", "--pages"), ("plane-3.png", "--planes")):
+            done = self.run_command("screen", self.calls, folder / name, option, folder)
+            told = f"{folder}/{name}: a picture of {folder} would have this name$"
+            hold_undone(self, done, told)
+        # Neither has a picture of another name.
+        words = ("--planes", folder, "--at", "1.5")
+        told = self.done("screen", self.calls, folder / "plane-4.png", *words)
+        self.assertEqual(told.count("\n"), 5)
+
     def test_a_picture_on_standard_output(self) -> None:
         out = self.folder / "out.png"
         self.done("screen", self.calls, out, "--at", "1.5", "--scale", "2")

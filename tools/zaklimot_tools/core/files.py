@@ -18,8 +18,8 @@ from .trouble import Trouble
 
 STANDARD = "-"
 NO_NAME = "the name of a file is empty"
-# How the pictures are called that a tool lays into a folder.
-PICTURE_NAME = re.compile(r"[0-9]{4,}(?:\.[0-9]+)?\.(?:png|ppm)")
+# How the pictures are called that a tool lays into a folder: by numbers, seconds, pages or planes.
+PICTURE_NAME = re.compile(r"(?:[0-9]{4,}(?:\.[0-9]+)?|page-[0-9A-F]{4}|plane-[0-3])\.(?:png|ppm)")
 
 
 class Input(str):
