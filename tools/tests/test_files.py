@@ -70,6 +70,11 @@ class Registry(Folder):
             self.assertIn(BOTH.strip(), self.taken(json=Output("-"), junit=Output(path)))
             self.assertIn(BOTH.strip(), self.taken(json=Output(path), junit=Output("-")))
             self.assertEqual(self.taken(json=Output("-"), junit=Output(other)), "")
+        # It is no input, whatever is written there.
+        with open(path, "ab") as stream, mock.patch("sys.stdout", stream):
+            told = f"standard output: it is read as {path}, so it isn't written"
+            self.assertEqual(self.taken(report=Input(path), all=True), told)
+            self.assertEqual(self.taken(report=Input(other), html=Output(path)), "")
         # Also where it is no file.
         reader, writer = os.pipe()
         os.close(reader)
@@ -143,6 +148,24 @@ class Registry(Folder):
         for words, told in rows:
             with self.subTest(words):
                 self.assertEqual(self.taken(**words), told.strip())
+
+    def test_what_the_system_permits_is_asked_before_any_work(self) -> None:
+        # The user of the tests may be one to whom all is permitted.
+        path, folder = self.write("d/o", ""), str(self.folder / "d")
+        there = f"{folder}: there is no permission to write there"
+        outputs: tuple[tuple[Output, str], ...] = (
+            (Output(path), f"{path}: it is read-only"),
+            (Output(f"{folder}/new"), there),
+            (PictureFolder(folder), there),
+            (PictureFolder(f"{folder}/new/er"), there),
+        )
+        for output, told in outputs:
+            with mock.patch("os.access", lambda *_: False):
+                self.assertEqual(self.taken(json=output), told)
+            # A folder that can't be entered takes no file.
+            with mock.patch("os.access", lambda _, mode: not mode & os.X_OK):
+                self.assertEqual(self.taken(json=output), there)
+            self.assertEqual(self.taken(json=output), "")
 
     def test_a_folder_for_files_is_new_or_empty(self) -> None:
         (self.folder / "full" / "folder").mkdir(parents=True)

@@ -137,6 +137,18 @@ class Options(Folder):
             self.assertEqual(done, (0, told.encode(), ""))
             self.assertTrue((self.folder / name).exists())
 
+    def test_a_page_wants_a_font_file_of_its_size(self) -> None:
+        wrong = "vga-report: {0}: the font file has {1} bytes, and 9,728 are right\n".format
+        for name, size, told in (
+            ("f", 9727, wrong("f", "9,727")),
+            ("f", 9729, wrong("f", "9,729")),
+            ("f", 0, wrong("f", "0")),
+            ("-", 9728, "vga-report: --fonts wants a file\n"),
+        ):
+            self.write("f", bytes(size))
+            done = self.done(f"run s.vga --debug o --fonts {name}")
+            self.assertEqual((done, (self.folder / "o").exists()), ((2, b"", told), False))
+
     def test_those_that_only_look_so_do_their_work(self) -> None:
         for words, status in TOGETHER:
             with self.subTest(words):

@@ -261,6 +261,12 @@ FAULTS_TOLD = (
         "the text is UTF-16, of two bytes a letter: save it as UTF-8 or ASCII",
         b"\xfe\xff" + "frame\n".encode("utf-16-be"),
     ),
+    (
+        "F7 BadLine(2)",
+        "s:2",
+        "repeats are of version 2: write version 2 before every other line\n  end",
+        b"frame\nend\n",
+    ),
     # Another repeat has an end.
     (
         "F7 BadLine(5)",

@@ -155,6 +155,13 @@ class Reports(Folder):
         cells = re.findall(r'<tr><td class="number">4</td><td>(.*?)</td><td>(.*?)</td>', text)
         self.assertEqual(cells, [("55", "56")])
 
+    def test_answers_are_no_elements_of_a_page(self) -> None:
+        self.report("tag", "<b>&amp;")
+        self.report("quote", '"<i>"')
+        self.assertEqual(self.done("compare tag quote --html page.html")[0], 1)
+        text = (self.folder / "page.html").read_text("utf-8")
+        self.assertIn("<td>&lt;b&gt;&amp;amp;</td><td>&quot;&lt;i&gt;&quot;</td>", text)
+
     def test_a_page_of_steps_that_differ(self) -> None:
         for words, status, told, said in (
             ("byte byte", 0, "byte and byte agree: ", "0 steps differ; 2 steps, 0 pictures"),

@@ -28,6 +28,7 @@ from zaklimot_tools.core.processes import (
     run_command,
     said_last,
     started,
+    streaming,
 )
 from zaklimot_tools.core.progress import DELAY, Progress
 from zaklimot_tools.core.streams import write_file, writing
@@ -242,6 +243,28 @@ class Programs(unittest.TestCase):
         self.assertEqual(said, "one\nthree\n")
         self.assertTrue(heard[-1] in ("two", "three"))
         self.assertEqual(run(["sh", "-c", 'printf "$ONE"'], environment={"ONE": "1"}), "1")
+
+    def test_of_much_the_end_is_told(self) -> None:
+        says = "seq 20000 >&2; seq 20000; echo written"
+        done = captured(["sh", "-c", f"{says}; exit 3"])
+        self.assertEqual((done.status, len(done.said())), (3, 2000))
+        self.assertTrue(done.said().endswith("\n19999\n20000\n"))
+        with streaming(["sh", "-c", says]) as run:
+            self.assertTrue(run.report.read().endswith(b"\n20000\nwritten\n"))
+        self.assertEqual((run.status, len(run.said)), (0, 1 << 16))
+        self.assertTrue(run.said.endswith("\n20000\n"))
+
+    def test_what_is_said_is_heard_before_what_is_written(self) -> None:
+        # Whole lines alone, and the last of them at the end.
+        for says, wanted in (
+            ("echo one >&2; echo two", "one"),
+            ("echo one >&2; printf more >&2; echo two", "one"),
+            ("echo one; echo two; printf more", "two"),
+            ("printf more", ""),
+        ):
+            heard: list[str] = []
+            run(["sh", "-c", says], heard=heard.append)
+            self.assertEqual(heard[-1], wanted, says)
 
 
 @unittest.skipUnless(
