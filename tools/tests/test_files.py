@@ -92,9 +92,10 @@ class Registry(Folder):
     def test_a_picture_of_a_folder(self) -> None:
         folder = str(self.folder / "d")
         for name in ("0003.png", "12345.ppm", "00012.345.png"):
-            for words in ({"a": PictureFolder(folder)}, {"z": PictureFolder(folder)}):
+            pictures, path = PictureFolder(folder), Output(f"{folder}/{name}")
+            for words in ({"a": pictures, "b": path}, {"a": path, "b": pictures}):
                 (self.folder / "d").mkdir(exist_ok=True)
-                told = self.taken(**words, json=Output(f"{folder}/{name}"))
+                told = self.taken(**words)
                 self.assertEqual(
                     told, f"{folder}/{name}: a picture of {folder} would have this name"
                 )
