@@ -1,14 +1,17 @@
 """Reports: read, whole and damaged; compared with others and with what is expected; and dumps."""
 
 import hashlib
+import io
 import unittest
 from typing import Iterable, Optional
+from unittest import mock
 
 from zaklimot.format import Answer, Picture
+from zaklimot_tools.core.progress import Progress
 from zaklimot_tools.report.expecting import differing, what_differs
 from zaklimot_tools.report.report import Comparison, Expected, Report
 
-from .tools import BLACK, RED, WHITE, hold, ppm, refused, report, stream
+from .tools import BLACK, RED, WHITE, Folder, hold, ppm, refused, report, stream
 
 
 DUMP = "misc 00\nseq 00: 00"
@@ -181,6 +184,31 @@ class Reports(unittest.TestCase):
                 ),
             ],
         )
+
+
+class Progresses(Folder):
+    def told(self, stream: io.BufferedReader) -> list[str]:
+        """What a terminal shows while a report is read."""
+        progress = mock.create_autospec(Progress, instance=True)
+        progress.is_due.return_value = True
+        list(Report(stream, "r", progress).steps())
+        return [call.args[0] for call in progress.tell.call_args_list]
+
+    def test_how_far_a_report_was_read_is_told(self) -> None:
+        data = report(*["ok"] * 20_000)
+        with open(self.write("r", data), "rb") as file:
+            shares = self.told(file)
+        self.assertGreater(len(shares), 1)
+        numbers = [int(share[len("r: ") : -len(" %")]) for share in shares]
+        self.assertEqual(shares, [f"r: {number} %" for number in numbers])
+        self.assertEqual(
+            (numbers, 0 <= numbers[0], numbers[-1] <= 100), (sorted(numbers), True, True)
+        )
+        self.assertGreater(numbers[-1], 50)
+        # Of what has no length, as a pipe, the lines are counted.
+        lines = self.told(stream(data))
+        self.assertEqual(len(lines), len(shares))
+        self.assertRegex(lines[-1], r"^r: \d+ lines$")
 
 
 class Differing(unittest.TestCase):

@@ -139,6 +139,13 @@ class Words(unittest.TestCase):
                 with self.subTest(parser.prog):
                     self.assertTrue(callable(parser.get_default("job").found()))
 
+    def test_a_tool_with_commands_wants_one(self) -> None:
+        named = [name for name in NAMES if len(parsers_of(name)) > 1]
+        self.assertIn("vga-report", named)
+        for name in named:
+            told = "(?s)^usage: .*: error: the following arguments are required: COMMAND\n$"
+            hold_undone(self, call(main_of(name)), told)
+
     def test_the_defaults_that_are_told_hold(self) -> None:
         held = 0
         for parser in (parser for name in NAMES for parser in parsers_of(name)):

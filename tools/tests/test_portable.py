@@ -358,6 +358,11 @@ class Found(Cache):
                 with mock.patch.object(program, "RELEASED", none):
                     self.assertEqual(found_program(), in_path)
                     self.assertEqual((built_program(named), built_program()), (named, in_path))
+                    # What pip has installed has no command of that name.
+                    with mock.patch.object(program, "LAUNCHER", none):
+                        alone = mock.patch.dict(os.environ, PATH=str(Path(in_path).parent))
+                        with alone:
+                            self.assertEqual(found_program(), in_path)
         with mock.patch.multiple(program, PROGRAM=none, RELEASED=none), mock.patch.dict(
             os.environ, PATH="/usr/bin:/bin"
         ):

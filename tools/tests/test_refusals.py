@@ -38,11 +38,15 @@ HEX, COMMENT = "numbers are hexadecimal digits alone: write ", "comments begin w
 DOTS, GLUED = "DOTS is decimal digits alone: write ", "a blank stands between words: write "
 ALONE = "nothing stands after the name of a step but blanks: write "
 ONE_STEP, DIGITS_MOST = "a word too many: one step stands on a line", "and 2 digits are the most"
+ALWAYS = "a call is always interrupt 10, and its numbers stand after their registers"
 BOUNDS: tuple[tuple[str, str, str], ...] = (
     ("frame,", "frame,", f"{ALONE}frame"),
     ("in: 3DA", "in:", f"{ALONE}in"),
     ("outw3C4 0202", "outw3C4", f"{GLUED}outw 3C4"),
     ("getwA0000", "getwA0000", f"{GLUED}getw A0000"),
+    ("in3D", "in3D", f"{GLUED}in 3D"),
+    ("in3", "in3", "there is no step 'in3'; did you mean in?"),
+    *((f"int {text} ax=3", text, f"{ALWAYS}: ax=3") for text in ("10", "0x10", "$10", "10h")),
     ("in 3DA OUT", "OUT", ONE_STEP),
     ("in 3DA Frame 1", "Frame", ONE_STEP),
     ("note this", "note", COMMENT),
