@@ -10,8 +10,11 @@ import subprocess
 import time
 import unittest
 from pathlib import Path
+from unittest import mock
 
-from .tools import NAMES, TOOLS, Folder, ended
+from zaklimot_tools import starting
+
+from .tools import MAIN, NAMES, TOOLS, Folder, ended
 
 # Seconds after which Ctrl-C comes: from before the shell has begun until after Python has.
 MOMENTS = [number / 50 for number in range(20)]
@@ -84,6 +87,17 @@ class Starting(Folder):
     def test_words_pass_as_they_are(self) -> None:
         status, _, said = ended(TOOLS / "vga-report", "text", "a  $b \"c'")
         self.assertEqual((status, said), (2, "vga-report: a  $b \"c': No such file or directory\n"))
+
+    def test_the_commands_of_pip_are_the_tools_of_their_names(self) -> None:
+        text = (TOOLS / "pyproject.toml").read_text("ascii")
+        listed = re.findall(r'^(vga-\w+) = "zaklimot_tools\.starting:(\w+)"$', text, re.M)
+        self.assertEqual(len(listed), 5)
+        for name, function in listed:
+            with mock.patch.object(starting, "start", return_value=7) as start:
+                self.assertEqual(getattr(starting, function)(), 7)
+            found = MAIN.search((TOOLS / name).read_text("ascii"))
+            assert found is not None
+            start.assert_called_once_with(found[1])
 
     def test_all_begin_alike(self) -> None:
         begun = set()
