@@ -29,7 +29,7 @@ from zaklimot_tools.script.program import found_program
 from zaklimot_tools.script.words import FONTS
 
 from .stepping import compile_library
-from .tools import EXAMPLES, PROGRAM, TOP, ended, ppm, run_tool
+from .tools import EXAMPLES, TOP, ended, ppm, run_tool
 
 FILE = Path(__file__).with_suffix(".json")
 ASKED = Path(__file__).with_name("answers.txt")
@@ -139,15 +139,15 @@ def given_files() -> dict[str, bytes]:
     """The files that the commands read, by their names. What they run is compiled before."""
     compile_library()
     with contextlib.redirect_stderr(io.StringIO()):
-        found_program()
+        program = found_program()
     with tempfile.TemporaryDirectory() as made:
         folder = Path(made)
         _lay(folder, {name: text.encode() for name, text in TEXTS.items()})
         run_tool("vga-trace", "convert", folder / "t.trace", folder / "t.vga", "--text")
         for name in ("s", "good", "repeated", "t"):
             script = f"{name}.bin"
-            ended(PROGRAM, "asm", f"{name}.vga", script, cwd=folder)
-            words = (PROGRAM, "run", script, "--fonts", FONTS)
+            ended(program, "asm", f"{name}.vga", script, cwd=folder)
+            words = (program, "run", script, "--fonts", FONTS)
             (folder / f"{name}.txt").write_bytes(ended(*words, cwd=folder, text=False)[1])
         files = _files(folder)
     report = files["good.txt"]

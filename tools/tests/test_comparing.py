@@ -88,6 +88,21 @@ class Differences(Seen):
             done = self.compare(STANDING, shorter, "--still", still)
             self.assertEqual(done, (0, [ALIKE, f"pictures: {told}{NO_MORE}"]))
 
+    def test_writes_whose_time_is_not_known_are_of_the_time_before(self) -> None:
+        # A letter that stands for five seconds, and behind it a write without a time.
+        traces = (
+            f"{MODE}500001 w m B8000 {letter} 1\n- w m B8002 43 1\n6000000 w m B8000 20 1\n"
+            for letter in (41, 42)
+        )
+        status, lines = self.compare(*traces)
+        wanted = [
+            ALIKE,
+            "pictures: the first is equal; picture 2 differs",
+            "  one: 720x400, at 0.501",
+            "  other: 720x400, at 0.501",
+        ]
+        self.assertEqual((status, lines[:4]), (1, wanted))
+
     def test_after_each_picture_all_blinks_as_before(self) -> None:
         # 32 frames, the drawn one among them, after which the cursor and blinking text are alike.
         known = Registers()

@@ -199,6 +199,8 @@ class Programs(Folder):
             self.assertEqual(built_program("mine"), path)
             self.assertEqual(built_program(other), other)
             self.assertEqual(built_program("none"), "none")
+        told = "the name of the program is empty"
+        self.assertEqual(refused(built_program, ""), told)
 
     def test_what_is_told_of_one_that_ends_badly(self) -> None:
         def told(status: int, said: str) -> str:

@@ -427,3 +427,21 @@ class Watched(Fake):
             self.assertEqual(told, wanted)
             process.send_signal(signal.SIGINT)
             self.assertEqual(process.wait(60), 130)
+
+    def test_a_change_while_a_script_runs_has_it_run_again(self) -> None:
+        # The first run adds a step to the script, which it doesn't take.
+        added = self.folder / "added"
+        self.begin_program(
+            f"import os\nif not os.path.exists({str(added)!r}):\n"
+            f"    open({str(added)!r}, 'x')\n    open({self.path!r}, 'a').write('get 0\\n')\n"
+        )
+        told = self.folder / "told"
+        with open(told, "wb") as stream:
+            words = ("run", self.path, "--vga", self.vga, "--quiet", "--watch")
+            process = begin("vga-report", *words, stdout=stream)
+        self.addCleanup(process.wait)
+        self.addCleanup(process.kill)
+        assert process.stderr is not None
+        with process.stderr:
+            wanted = f"{self.path} has changed\n{self.path}: 7 steps, "
+            self.wait_until(lambda: wanted in told.read_text(), process)

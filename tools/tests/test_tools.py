@@ -6,6 +6,7 @@ from __future__ import annotations
 import ast
 import contextlib
 import io
+import json
 import os
 import re
 import shutil
@@ -20,6 +21,7 @@ from unittest import mock
 from zaklimot_tools.core import cli
 from zaklimot_tools.core.processes import (
     IS_LINUX,
+    Done,
     Failed,
     Limits,
     Outcome,
@@ -696,6 +698,20 @@ class Checking(Folder):
             ),
             checked.failed,
         )
+
+    def test_cases_that_failed_count_beside_those_that_differ(self) -> None:
+        cases = [{"answer": "failed", "name": "a/one", "reason": "it ended"}]
+        told = {
+            "rules": [{"cases": cases}],
+            "cases": {"agrees": 9, "skipped": 1, "differs": 2, "failed": 4},
+        }
+        for status in (0, 1, 2):
+            done = Done(status, json.dumps(told).encode(), b"")
+            output = io.StringIO()
+            with mock.patch.object(checking, "captured", lambda *_, **__: done):
+                with contextlib.redirect_stdout(output):
+                    self.assertEqual(checking.check_suite("vga"), running.Counts(9, 6, 1))
+            self.assertEqual(output.getvalue(), "failed  a/one: it ended\n")
 
     def test_what_ends_it_at_once(self) -> None:
         with mock.patch.dict(os.environ, CC="no-such-compiler"):

@@ -73,6 +73,8 @@ def _in_path() -> Optional[str]:
 
 def _named_program(name: str) -> str:
     """Where the program of this name is, which lies in the path if the name has no folder."""
+    if not name:
+        raise Trouble("the name of the program is empty")
     path = shutil.which(name) or name
     if os.path.isdir(path):
         raise Trouble("it is a folder, and no program", path)
