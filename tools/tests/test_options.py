@@ -24,28 +24,35 @@ CONTRADICTING = {
     "--bless lists its changes: without --json": (
         "run s.vga --bless --json o",
         "run s.vga --bless --json -",
+        "run s.vga --bless --json=",
         "run s.vga --bless --diff --json o",
     ),
     "--debug writes a page that runs the script: without --bless, --pictures and --show": (
         "run s.vga --debug o --pictures p",
+        "run s.vga --debug o --pictures=",
         "run s.vga --debug - --show",
         "run s.vga --debug o --bless",
     ),
     "--debug runs nothing here: without --only, --try and --vga": (
         "run s.vga --debug o --only 1",
+        "run s.vga --debug o --only=",
         "run s.vga --debug o --try",
         "run s.vga --debug o --vga ./vga",
     ),
     "a folder of scripts, and --junit, want none of --bless, --only, --pictures, --show and"
     " --debug": tuple(
         f"run {script} {option}"
-        for script in ("scripts", "s.vga --junit o")
-        for option in ("--bless", "--only 1", "--pictures p", "--show", "--debug q")
+        for script in ("scripts", "s.vga --junit o", "s.vga --junit=")
+        for option in (
+            *("--bless", "--only 1", "--only=", "--pictures p", "--pictures=", "--show"),
+            "--debug q",
+        )
     ),
     "--watch wants a file that changes, and not standard input": ("run - --watch",),
     "the pictures want a folder, or --apng a file": ("pictures r", "pictures r --ppm"),
     "--apng writes one file, with neither a folder nor --ppm": (
         "pictures r p --apng o",
+        "pictures r p --apng=",
         "pictures r --apng o --ppm",
         "pictures r - --apng -",
     ),
@@ -54,7 +61,8 @@ CONTRADICTING = {
         "pictures r p --ppm --aspect",
     ),
     "--expected tells the first step that differs: without --all, --picture and --html": tuple(
-        f"compare r e --expected {option}" for option in ("--all", "--picture o", "--html o")
+        f"compare r e --expected {option}"
+        for option in ("--all", "--picture o", "--picture=", "--html o", "--html=")
     ),
     "the command is one word of the shell: 'true {script}'": ("suite true {script} --list l",),
 }

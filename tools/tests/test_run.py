@@ -424,6 +424,13 @@ class Listings(Fake):
         ]
         self.assertEqual((counts, (self.folder / "t.vga").read_text()), ([1, 0], whole))
 
+    def test_lines_of_a_dump_end_as_that_of_its_step(self) -> None:
+        text = "show regs ; more\r\n;| old\r\nget 0 ; = E6\n"
+        whole = "show regs ; = 2 lines dd8c6a395b5dd36c56d23275028f526c ; more\r\n"
+        whole += ";| a\r\n;| b\r\nget 0 ; = E6\n"
+        self.assertEqual(self.blessed(text)[::2], (0, whole))
+        self.assertEqual(self.blessed(whole)[1:], ("t.vga: 0 answers written\n", whole))
+
     def test_as_json(self) -> None:
         status, output, said = self.run_text(
             "get 0 ; = 55\nframe\nin 60\nshow regs\n", "--json", "-"

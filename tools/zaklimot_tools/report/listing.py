@@ -459,7 +459,7 @@ class Blessing:
             if number in self._changed:
                 answered = self._answers[number]
                 lines[-1] = _blessed(line, answered.line)
-                lines += [f"{DUMPED} {part}" for part in answered.dump]
+                lines += [f"{DUMPED} {part}{_ending(line)}" for part in answered.dump]
                 is_dropped = True
         return "\n".join(lines)
 
@@ -471,12 +471,16 @@ class Blessing:
         return "".join(f"{line}\n" for line in lines)
 
 
+def _ending(line: str) -> str:
+    """How a line ends, before its line feed."""
+    return "\r" if line.endswith("\r") else ""
+
+
 def _blessed(line: str, answer: str) -> str:
-    ending = "\r" if line.endswith("\r") else ""
     words, _, comment = line.rstrip("\r").partition(";")
     rest = comment.strip()
     if rest.startswith(MARK):
         rest = rest.partition(";")[2].strip()
     # Comments stand in the column where they stood.
     front = words if words.endswith((" ", "\t")) else words + " "
-    return f"{front}; {MARK} {answer}" + (f" ; {rest}" if rest else "") + ending
+    return f"{front}; {MARK} {answer}" + (f" ; {rest}" if rest else "") + _ending(line)

@@ -116,7 +116,7 @@ def _add_page(parser: argparse.ArgumentParser) -> None:
     told = "--debug writes a page that runs the script: without --bless, --pictures and --show"
     wanted("debug", _has_pictures, told)
     told = "--debug runs nothing here: without --only, --try and --vga"
-    wanted("debug", lambda words: words.only or words.try_ or words.vga, told)
+    wanted("debug", lambda words: words.only is not None or words.try_ or words.vga, told)
 
 
 def _add_blessing(parser: argparse.ArgumentParser) -> None:
@@ -139,7 +139,8 @@ def _add_folders(parser: argparse.ArgumentParser) -> None:
     rule(
         parser,
         "script",
-        lambda words: is_several(words) and (_has_pictures(words) or words.debug or words.only),
+        lambda words: is_several(words)
+        and (_has_pictures(words) or words.debug or words.only is not None),
         "a folder of scripts, and --junit, want none of --bless, --only, --pictures, --show and "
         "--debug",
     )
