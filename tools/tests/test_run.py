@@ -407,6 +407,12 @@ class Listings(Fake):
             blessing.take(Row(Answer(1, 1, answer), "get 0", 3, None, (), "", False))
         self.assertEqual(blessing.text(), "version 2\nrepeat 2\nget 0 ; = *\nend\n")
 
+    def test_of_a_dump_that_is_another_one_each_time_no_lines_are_written(self) -> None:
+        blessing = Blessing(b"version 2\nrepeat 2\nshow regs\n;| old\nend\n", True)
+        for last in ("b", "c"):
+            blessing.take(Row(Answer(1, 1, "a", (last,)), "show regs", 3))
+        self.assertEqual(blessing.text(), "version 2\nrepeat 2\nshow regs ; = *\nend\n")
+
     def test_a_dump_that_stands_whole(self) -> None:
         whole = (
             "show regs ; = 2 lines dd8c6a395b5dd36c56d23275028f526c ; more\n;| a\n;| b\nget 0 ; ="
