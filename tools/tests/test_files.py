@@ -188,6 +188,10 @@ class Registry(Folder):
         self.assertEqual(self.taken(report=OutputOrFolder(self.folder / "d")), "")
         self.assertEqual(self.taken(pictures=PictureFolder(path)), f"{path}: it is not a folder")
 
+    def test_an_input_has_a_name(self) -> None:
+        taken = self.taken(script=Input("s"), fonts=Input(""))
+        self.assertEqual(taken, "the name of a file is empty")
+
     def test_standard_input_is_read_once(self) -> None:
         self.assertIn("can be read once", self.taken(report=Input("-"), other=Input("-")))
         self.assertEqual(self.taken(report=Input("-"), other=Output("-")), "")

@@ -286,6 +286,8 @@ class Written(Fake):
             (
                 ("get 0\t; why\n", (one, "get 0\t; = E6 ; why\n")),
                 ("get 0   ;why", (one, "get 0   ; = E6 ; why")),
+                ("get 0 ; why ; = 55", (one, "get 0 ; = E6 ; why ; = 55")),
+                ("get 0 ;=; why; more", (one, "get 0 ; = E6 ; why; more")),
                 # The lines of the old dump go, and no others.
                 (
                     "show regs ; = 3 lines\n;| x\n  ;| y\n;| z\n; more\n;| kept\nout 3C2 1\n",

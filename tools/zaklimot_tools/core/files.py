@@ -124,14 +124,16 @@ class Files:
         self._made: list[Path] = []
 
     def take(self, words: argparse.Namespace) -> None:
-        """Takes the files that words name. It ends the work where one can't be written, or where
-        two of them are one."""
+        """Takes the files that words name. It ends the work where one has no name or can't be
+        written, or where two of them are one."""
         values = [value if isinstance(value, list) else [value] for value in vars(words).values()]
         given = [one for some in values for one in some]
         inputs = [one for one in given if isinstance(one, Input)]
         if inputs.count(Input(STANDARD)) > 1:
             raise Trouble("standard input can be read once")
         for one in inputs:
+            if not one:
+                raise Trouble(NO_NAME)
             self.reads(one)
         # Each tool tells something there.
         self.refuse_input(STANDARD)
