@@ -15,9 +15,9 @@ from pathlib import Path
 from unittest import mock
 from xml.etree import ElementTree
 
-from zaklimot.format import count_in, lines_in, places_in, steps_in, words_in
+from zaklimot.format import Answer, count_in, lines_in, places_in, steps_in, words_in
 from zaklimot_tools.core.trouble import Trouble
-from zaklimot_tools.report.expecting import dumps_in, expected_in
+from zaklimot_tools.report.expecting import dumps_in, expected_in, is_worth_telling
 from zaklimot_tools.script import program
 from zaklimot_tools.script.reading import text_of
 
@@ -52,6 +52,20 @@ class Expectations(unittest.TestCase):
             ],
         )
 
+    def test_what_is_not_worth_writing_in(self) -> None:
+        call = "ax=0003 bx=0000 cx=00FF dx=0000"
+        hold(
+            self,
+            lambda answer, words: is_worth_telling(Answer(1, 1, answer), words),
+            [
+                ("ok", "frame", False),
+                ("skipped", "frame", False),
+                ("00", "in 3DA", True),
+                (call, "INT AX=3 CX=FF", False),
+                (call, "INT AX=3", True),
+            ],
+        )
+
     def test_dumps(self) -> None:
         hold(
             self,
@@ -63,6 +77,8 @@ class Expectations(unittest.TestCase):
                 ("frame\n frame ;| a\n", {}),
                 ("ret\v2 ; = 5\n\t\r\n", {}),
                 ("\xe9 ; = 5\n;| 1", {1: ("1",)}),
+                # A line of signs alone expects nothing.
+                ("; =====\n;=\r\n; == =\r\nframe\r\n", {}),
             ],
         )
 

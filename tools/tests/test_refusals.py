@@ -327,6 +327,7 @@ FAULTS_TOLD = (
         for rows in (8, 14, 16)
     ),
     ("F1 FontSize", "f", f"the font file has 2,304 {TOLD_LENGTH}", b"", bytes(2304)),
+    ("F1 FontSize", "f", f"the font file has 16,777,216 {TOLD_LENGTH}", b"", bytes(16_777_216)),
     # What is too long.
     ("F6 TooLong", "s", f"the file has more bytes, and {TOLD_MOST}", bytes(16_777_217)),
     (

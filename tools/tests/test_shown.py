@@ -203,6 +203,12 @@ class Together(Fake):
         told = [line.split(":")[1] for line in self.run_text(text, "--quiet")[1].splitlines()]
         self.assertEqual(told[:11], [f"{number}" for number in range(1, 12)])
 
+    def test_an_expected_answer_of_no_words_is_met_by_none(self) -> None:
+        status, output, said = self.run_text("get 0 ; =\n", "--quiet")
+        told = "t.vga:1: step 1: GET 0 answers E6, not \n"
+        told += "t.vga: 1 step, 0 pictures, 0 of 1 answers as expected\n"
+        self.assertEqual((status, output, said), (1, told, ""))
+
     def test_what_only_can_not_mean(self) -> None:
         hold_refused(
             self,

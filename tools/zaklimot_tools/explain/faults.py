@@ -191,7 +191,7 @@ def not_a_script(data: bytes) -> Optional[str]:
     for begin, what in FOREIGN.items():
         if data.startswith(begin):
             return _of_file("foreign", what=what)
-    if not data or not CONTROLS & set(data[:LOOKED_AT]):
+    if not CONTROLS & set(data[:LOOKED_AT]):
         return None
     if len(data) == FONT_BYTES:
         return _of_file("foreign", what=_of_file("font file"))
