@@ -1,6 +1,8 @@
 """The completions of the tools' words are made of their parsers, and shells complete by them."""
 
 import argparse
+import os
+from functools import partial
 
 from zaklimot_tools.core.cli import add
 from zaklimot_tools.core.files import Input, PictureFolder
@@ -63,6 +65,17 @@ class Made(Completing):
             told = "tools/vga-completions share makes it anew"
             self.assertEqual(made, (TOP / "share" / place).read_text("ascii"), told)
             self.assertIn(place.encode(), output)
+
+    def test_what_is_no_folder_is_told_before_a_file_is_written(self) -> None:
+        before = self.names()
+        file = self.write("files/file", "")
+        for name, told in (
+            ("", "the name of a file is empty"),
+            (file, f"{file}: it is not a folder"),
+        ):
+            done = run_tool("vga-completions", name, prepare=partial(os.chdir, self.folder))
+            self.assertEqual(done, (2, b"", f"vga-completions: {told}\n"))
+        self.assertEqual(self.names(), before)
 
     def offered(self) -> dict[str, list[str]]:
         """What is offered of each tool by its parser: all commands, and the options of each."""

@@ -3,6 +3,7 @@
 import argparse
 from pathlib import Path
 
+from zaklimot_tools.core.files import check_folder
 from zaklimot_tools.core.progress import Progress
 from zaklimot_tools.core.streams import write_file, write_name
 from zaklimot_tools.floppy.words import parser as of_floppy
@@ -34,6 +35,7 @@ def completions(tool: Tool) -> dict[str, str]:
 
 def write_completions(words: argparse.Namespace, _: Progress) -> None:
     """Writes each file, and prints its name."""
+    check_folder(words.folder)
     for tool in tools():
         for place, text in completions(tool).items():
             path = Path(words.folder, place)
