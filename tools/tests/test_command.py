@@ -381,6 +381,7 @@ BLOCK = "version 2 ; a block\nrepeat 2\nget A0000\nend\n"
 BIG = "\0" * 16_777_217
 LISTED = "{folder}/list:2: "
 OUTSIDE = f"{LISTED}a case outside the list's folder"
+FONTS_OF_ONE_NAME = {"x/two.fnt": "3", "y/two.fnt": "4"}
 HANDED: list[tuple[str, dict[str, str], str, dict[str, str] | str]] = [
     (
         (
@@ -402,17 +403,18 @@ HANDED: list[tuple[str, dict[str, str], str, dict[str, str] | str]] = [
             "list.txt": "a/one.vga fonts/two.fnt\nb/two.bin fonts/two.fnt\n",
         },
     ),
-    # Fonts of one name in two folders.
+    # Fonts of one name in three folders.
     (
-        "fonts two.fnt\none\nfonts x/two.fnt\ntwo\n",
-        {"one.vga": "", "two.vga": "", "x/two.fnt": "3"},
+        "fonts two.fnt\none\nfonts x/two.fnt\ntwo\nfonts y/two.fnt\nc\nfonts two.fnt\nd\n",
+        {**dict.fromkeys(("one.vga", "two.vga", "c.vga", "d.vga"), ""), **FONTS_OF_ONE_NAME},
         "",
         {
-            "one.vga": "",
-            "two.vga": "",
+            **dict.fromkeys(("one.vga", "two.vga", "c.vga", "d.vga"), ""),
             "fonts/two.fnt": "12",
             "fonts/1-two.fnt": "3",
-            "list.txt": "one.vga fonts/two.fnt\ntwo.vga fonts/1-two.fnt\n",
+            "fonts/2-two.fnt": "4",
+            "list.txt": "one.vga fonts/two.fnt\ntwo.vga fonts/1-two.fnt\nc.vga fonts/2-two.fnt\n"
+            "d.vga fonts/two.fnt\n",
         },
     ),
     *(

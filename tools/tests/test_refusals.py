@@ -366,6 +366,7 @@ class Faults(Folder):
             (1, b"frame \x7f\n", "the character U+007F "),
             (1, b"frame \xc3\xa9\n", "the character U+00E9 "),
             (1, b"frame \xe9\n", "the character byte E9 "),
+            (1, b"frame \x80\n", "the character byte 80 "),
         ):
             fault = f"F7 BadLine({number})"
             front = f"{self.folder / 's'}:{number}: {fault}: {told}"

@@ -228,14 +228,17 @@ class Listings(Fake):
             self.assertEqual(self.run_script(path="pipe"), listed)
         for name, data in ((b"s\xff", TEXT), (b"f\xff", "font")):
             Path(os.fsdecode(bytes(self.folder) + b"/" + name)).write_text(data)
-        # As the program does, which wants words of UTF-8.
-        self.begin_program("' '.join(sys.argv).encode()\n")
+        # As the program does, which wants words of UTF-8, and reads the font file.
+        self.begin_program(
+            "' '.join(sys.argv).encode()\nif '--fonts' in sys.argv: open(sys.argv[4]).close()\n"
+        )
         hold(
             self,
             lambda path, *words: self.run_script(*words, path=path, given=TEXT.encode()),
             (
                 ("-", listed),
                 ("/dev/stdin", listed),
+                ("/proc/self/fd/0", listed),
                 (b"s\xff", "--fonts", b"f\xff", listed),
             ),
         )

@@ -47,7 +47,7 @@ def _files(script: str, fonts: str) -> Iterator[tuple[str, bytes, str]]:
     The script of a pipe becomes a file, since it is read more than once. What is wrong with a name
     the program says.
     """
-    is_there = script in (STANDARD, "") or os.path.exists(script) and not os.path.isdir(script)
+    is_there = script in (STANDARD, "") or os.path.exists(script)
     data = read_script(script) if is_there else b""
     with tempfile.TemporaryDirectory(prefix="vga-report-") as folder:
         # The program's own standard input is another one than that which `/dev/stdin` names here.
