@@ -341,10 +341,12 @@ SUITES: list[tuple[tuple[tuple[str, ...], ...], str, list[str]]] = [
             ("66 72 61 6D 65 0A 66 0A ; frame, f", "1 ragged\n", "bytes c/0 until 1"),
             ("69 6E 20 33 43 43 ; in 3CC\n", "1 02\n", "bytes c/1"),
             ("get 0\n", "1 55\n"),
+            ("69 6E 20 33 43 43 ; no step\n", "1 02\n", "bytes c/3 until 0"),
         ),
         f"--bytes '{ADAPTER} {{fonts}}'",
         [
             "c/0: the command of --bytes has no {until}\n",
+            "c/3: the command of --bytes has no {until}\n",
             "  agrees   in 3CC\n",
         ],
     ),

@@ -481,6 +481,8 @@ class Lines(Folder):
             "rt: low: begins with what is kept",
             "crate high: modules loaded=1 checked=2",
             "linked",
+            # Of several crates of a line the last is meant.
+            "rt: high: looks at low",
         ):
             self.now += 61
             hear(line)
@@ -493,6 +495,7 @@ class Lines(Folder):
                 "3:03 proving: low, crate 1 of 2",
                 "4:04 proving: high, crate 2 of 2, is done",
                 "5:05 proving: high, crate 2 of 2, is done",
+                "6:06 proving: low, crate 1 of 2",
             ],
         )
 
