@@ -42,7 +42,8 @@ class Counted(Folder):
         )
 
     def test_of_no_test_the_status_is_told(self) -> None:
-        for told in ({}, None, {"warnings": 1}):
+        given: tuple[Optional[dict[str, int]], ...] = ({}, None, {"warnings": 1})
+        for told in given:
             reason = refused(self.counts, told, 4)
             self.assertEqual(reason, "pytest has run no test, and ended with status 4")
 

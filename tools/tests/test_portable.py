@@ -321,6 +321,14 @@ class Lacking(Cache):
                 if self.cache.exists():
                     self.assertEqual(self.left(), [])
 
+    def test_a_folder_in_the_place_of_the_lock_is_told_by_its_name(self) -> None:
+        lock = self.cache / portable.LOCK
+        lock.mkdir(parents=True)
+        hold_refused(
+            self, portable_program, ((f"^{lock}: Is a directory; the compiled program ",),)
+        )
+        self.assertEqual(self.noted(), 0)
+
     def test_a_user_without_a_home_folder(self) -> None:
         told = "^there is no home folder; .* can be written by XDG_CACHE_HOME$"
         with mock.patch.dict(os.environ, XDG_CACHE_HOME=""), mock.patch.object(
@@ -374,6 +382,14 @@ class Found(Cache):
                     "there is no program vga, and portable/ has no sources of it",
                     refused(found_program),
                 )
+
+    def test_a_folder_without_a_name_in_the_path_has_none(self) -> None:
+        self.program("vga", "#!/bin/sh\n")
+        self.addCleanup(os.chdir, os.getcwd())
+        os.chdir(self.folder)
+        none = {"PROGRAM": self.folder / "none", "RELEASED": self.folder / "none"}
+        with patched(program, none), mock.patch.dict(os.environ, PATH=os.pathsep):
+            self.assertIsNone(built_program())
 
     def test_wherever_it_is_found_it_is_not_written(self) -> None:
         names = ("named", "built", "released", "path")
