@@ -6,7 +6,7 @@ from functools import partial
 
 from zaklimot_tools.core.cli import add
 from zaklimot_tools.core.files import Input, PictureFolder
-from zaklimot_tools.dev.completions import fish, zsh
+from zaklimot_tools.dev.completions import bash, fish, zsh
 from zaklimot_tools.dev.completions.command import completions, tools
 from zaklimot_tools.dev.completions.described import (
     ToolArgument,
@@ -49,6 +49,15 @@ class Made(Completing):
     def test_texts_that_have_quotes_and_backslashes(self) -> None:
         self.assertEqual(fish._quoted("it's a \\"), r"'it\'s a \\'")
         self.assertEqual(zsh._quoted("it's a \\"), "'it'\\''s a \\'")
+
+    def test_brackets_in_what_is_told_and_options_of_two_names(self) -> None:
+        option = ToolOption(("-a", "--all"), "all [of it]", "N", OfferedWords(), True)
+        told = r"[all \[of it\]]:N: "
+        lines = [f"'*-a{told}'", f"'*--all={told}'"]
+        self.assertEqual(zsh._option_lines([option], 0), lines)
+        made = bash._command_lines(ToolCommand("one", "", [option], ()))
+        self.assertIn("options=('-a --all')\n", made)
+        self.assertIn("repeated=' -a --all '\n", made)
 
     def setUp(self) -> None:
         super().setUp()

@@ -2,11 +2,15 @@
 
 from __future__ import annotations
 
+import contextlib
+import io
 import json
 from pathlib import Path
 from typing import Mapping, Optional, Sequence
 
-from zaklimot_tools.dev.testing import running
+from zaklimot_tools.core.processes import Done
+from zaklimot_tools.dev.testing import checking, running
+from zaklimot_tools.dev.testing.checking import check_suite
 from zaklimot_tools.dev.testing.running import Counts, run_modules
 
 from .tools import Folder, hold, patched, refused
@@ -46,6 +50,21 @@ class Counted(Folder):
         for told in given:
             reason = refused(self.counts, told, 4)
             self.assertEqual(reason, "pytest has run no test, and ended with status 4")
+
+    def test_each_case_that_does_not_agree_is_printed(self) -> None:
+        answers = {"a": "agrees", "b": "skipped", "c": "differs", "d": "failed"}
+        cases = [{"name": a, "answer": answers[a], "reason": f"why {a}"} for a in answers]
+        told = {
+            "cases": dict.fromkeys(answers.values(), 1),
+            "rules": [{"cases": cases[:2]}, {"cases": []}, {"cases": cases[2:]}],
+        }
+        done = Done(2, json.dumps(told).encode(), b"")
+        output = io.StringIO()
+        with patched(checking, {"captured": lambda *_, **__: done}):
+            with contextlib.redirect_stdout(output):
+                check_suite("vga")
+        printed = "skipped  b: why b\ndiffers  c: why c\nfailed  d: why d\n"
+        self.assertEqual(output.getvalue(), printed)
 
     def test_cases_and_tests_are_added_up(self) -> None:
         both = Counts(1, 2, 3).beside(Counts(10, 20, 30))

@@ -229,6 +229,10 @@ class Programs(Folder):
         # It gets the font file that is named, and a script that the program takes.
         vga = self.program("vga", '#!/bin/sh\n[ "$1 $3 $4" = "go --fonts f" ] && echo 1 00\n')
         check_program_runs(vga, "f")
+        # One that ends badly runs none, whatever it has written.
+        vga = self.program("vga", "#!/bin/sh\necho 1 00; echo why >&2; exit 3\n")
+        told = f"{vga}: it runs no script with f: why"
+        self.assertEqual(refused(check_program_runs, vga, "f"), told)
 
     def test_the_command_becomes_the_program(self) -> None:
         with patched(launching, {"found_program": lambda instead: "/bin/sh"}):
