@@ -143,8 +143,6 @@ class Files:
 
     def reads(self, path: str) -> str:
         """Takes a file that is read, or may be: from now on it isn't written."""
-        if not path:
-            raise Trouble(NO_NAME)
         if path != STANDARD:
             self._inputs[path] = path
         return path
