@@ -92,7 +92,7 @@ class Runs(Folder):
         self.assertEqual(
             asked[1::2],
             [
-                [[*common, *more, "--first", "1", file] for file in words.file]
+                [[*common, *more, "--first", "1", "--", file] for file in words.file]
                 for more in with_program
             ],
         )

@@ -168,6 +168,33 @@ class Figures(Folder):
             told, ["           1 read port 3DA size 1", "           1 read port 3DA or 3BA, folded"]
         )
 
+    def test_polls_that_were_folded_are_those_of_the_part(self) -> None:
+        rows = (3, 20, 100)
+        data = b"".join(
+            qemu("write 3c2 67 1") + qemu("read 3da 0 1") + b"polls %d of 'vga-trace'\n" % count
+            for count in rows
+        )
+
+        def folded(*words: str) -> int:
+            lines = run("kinds", "-", *words, given=data)[1].decode().splitlines()
+            return sum(int(line.split()[0]) for line in lines if line.endswith("folded"))
+
+        hold(
+            self,
+            folded,
+            (
+                (123,),
+                ("--from", "2", 123),
+                # They come after the poll that stays.
+                ("--from", "3", 120),
+                ("--to", "5", 23),
+                ("--from", "3", "--to", "5", 20),
+                ("--from", "5", "--to", "5", 0),
+            ),
+        )
+        done = run("kinds", "-", "--from", "7", given=data)
+        hold_undone(self, done, "^vga-trace: standard input: it has 6 cycles, and no cycle 7$")
+
 
 class Parts(Folder):
     def pictures(self, *words: str) -> list[tuple[str, bytes]]:

@@ -301,6 +301,29 @@ class Coverage(Elements):
         self.assertTrue(shares <= {0, 5000, 10000}, shares)
 
 
+class Dashes(Elements):
+    def told(self, *words: str) -> list[str]:
+        """The lines of the tool in the folder, which works in two processes."""
+        status, output, said = run_tool("vga-steps", *words, prepare=lambda: os.chdir(self.folder))
+        self.assertEqual((status, said), (0, ""), words)
+        return output.decode().splitlines()
+
+    def test_names_that_begin_with_one_are_no_options(self) -> None:
+        names = ("-one.json.gz", "-two.json.gz")
+        for name, path in zip(names, (SEQUENCER, MASKS)):
+            (self.folder / name).write_bytes(path.read_bytes())
+        lines = self.told("coverage", "--least", "0", "--jobs", "2", "--", *names)
+        shown = {line.rpartition("  ")[2] for line in lines if line.endswith("]")}
+        self.assertEqual(shown, {f"[{name}]" for name in names})
+        lines = self.told("confirm", "--first", "1", "--jobs", "2", "--", *names)
+        self.assertEqual(lines, [f"{name}: 1 element, 0 differ" for name in names])
+        some = ("--only", "dac-mask", "--only", "sequencer", "--count", "1", "--plain")
+        lines = self.told("make", *some, "--jobs", "2", "--", "-made")
+        wanted = [f"-made/{name}.json" for name in ("sequencer", "dac-mask")]
+        self.assertEqual(sorted(lines), sorted(wanted))
+        self.assertTrue(all((self.folder / name).exists() for name in wanted))
+
+
 class Machines(Elements):
     def test_folders_are_called_by_the_names_of_files(self) -> None:
         hold(

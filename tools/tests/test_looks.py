@@ -282,6 +282,7 @@ class Finding(Seen):
                 # Some letters have two small ones.
                 (["\u0130x", "\u00e9"], "X", True, [(0, 1)]),
                 (["\u0130x", "\u00e9"], "\u00c9", True, [(1, 0)]),
+                (["x\u0130X"], "\u0130x", True, [(0, 1)]),
                 (["ab"], "abc", False, []),
             ),
         )

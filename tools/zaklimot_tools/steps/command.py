@@ -83,9 +83,11 @@ def _make_in_children(
 ) -> int:
     # Once, and not by each of them.
     library_path()
-    given = ["make", words.folder, "--count", str(words.count), "--seed", str(words.seed)]
+    given = ["make", "--count", str(words.count), "--seed", str(words.seed)]
     given += ["--plain"] if words.plain else []
-    commands = [[*given, "--only", kind.name] for kind in kinds if _is_alone(kind, kinds)]
+    # Names of files and folders may begin with a dash.
+    alone = [kind.name for kind in kinds if _is_alone(kind, kinds)]
+    commands = [[*given, "--only", name, "--", words.folder] for name in alone]
     for done in in_children(
         commands, words.jobs, progress, lambda n: f"{n} of {len(commands)} files"
     ):
@@ -175,7 +177,7 @@ def _counts(words: argparse.Namespace, progress: Progress) -> list[CountedFile]:
     """The counts of each file."""
     if not is_shared(words):
         return [_counted_file(path) for path in words.file]
-    commands = [["coverage", "--json", "--least", "0", path] for path in words.file]
+    commands = [["coverage", "--json", "--least", "0", "--", path] for path in words.file]
     told = f"of {len(commands)} files"
     found = in_children(commands, words.jobs, progress, lambda count: f"{count} {told}")
     return [CountedFile(**json.loads(done.output)["files"][0]) for done in found]

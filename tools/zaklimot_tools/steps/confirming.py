@@ -44,7 +44,7 @@ def _in_children(words: argparse.Namespace, program: Optional[str], progress: Pr
     else:
         given += ["--vga", program]
     given += [] if words.first is None else ["--first", str(words.first)]
-    commands = [[*given, path] for path in words.file]
+    commands = [[*given, "--", path] for path in words.file]
     statuses = []
     told = f"of {len(commands)} files"
     for done in in_children(commands, words.jobs, progress, lambda count: f"{count} {told}"):

@@ -2,7 +2,7 @@
 
 import argparse
 import sys
-from itertools import islice
+from itertools import chain, islice
 from pathlib import Path
 from tempfile import TemporaryDirectory
 from typing import ContextManager, Iterator, Optional, Sequence, TextIO, Union
@@ -74,10 +74,13 @@ def check_report(words: argparse.Namespace, _: Progress) -> int:
 def count_kinds(words: argparse.Namespace, _: Progress) -> None:
     """Counts a trace's cycles by kind."""
     with _opened(words) as trace:
-        found = count(islice(trace.cycles(words.to), words.from_ - 1, None))
-        if trace.polls:
-            found["read port 3DA or 3BA, folded"] = trace.polls
-        if not found:
+        cycles = trace.cycles(words.to)
+        first = list(islice(cycles, words.from_ - 1, words.from_))
+        before = trace.polls
+        found = count(chain(first, cycles))
+        if trace.polls > before:
+            found["read port 3DA or 3BA, folded"] = trace.polls - before
+        if not first:
             told = f"it has {counted(trace.count, 'cycle', ',')}, and no cycle {words.from_:,}"
             raise Trouble(told, trace.name)
     warn(trace, name_of(words.trace))

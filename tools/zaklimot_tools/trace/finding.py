@@ -46,9 +46,9 @@ class Found(NamedTuple):
 
 def found_in(rows: Iterable[str], wanted: str, folds_case: bool) -> Iterator[tuple[int, int]]:
     """The rows and columns at which a text stands."""
-    wanted = wanted.lower() if folds_case else wanted
+    # A letter and its small one are one character here, so columns stay.
+    wanted = "".join(map(_small, wanted)) if folds_case else wanted
     for number, row in enumerate(rows):
-        # A letter and its small one are one character here, so columns stay.
         row = "".join(map(_small, row)) if folds_case else row
         at = row.find(wanted)
         while at >= 0:
