@@ -3,18 +3,26 @@ exit status. And what options make of the pictures and scripts of a trace."""
 
 from __future__ import annotations
 
+import contextlib
+import io
 import os
+import unittest
+from contextlib import ExitStack
 from pathlib import Path
+from types import SimpleNamespace
+from typing import Any
 from unittest import mock
 
+from zaklimot.format import Picture, Report
+from zaklimot_tools.core.progress import Progress
 from zaklimot_tools.explain.registers import Registers
 from zaklimot_tools.trace import command
-from zaklimot_tools.trace.comparing import _drawn
+from zaklimot_tools.trace.comparing import Recording, ShownPicture, _compare_pictures, _drawn
 from zaklimot_tools.trace.step import ADVANCE, TraceStep
 from zaklimot_tools.trace.walking import FRAME_STEP, Question
 
 from .test_seeing import Seen
-from .tools import Folder, hold, hold_undone, png_rows, ppm, report
+from .tools import Folder, hold, hold_undone, png_rows, ppm, report, stream
 from .tracing import BEGIN, registers, run
 
 
@@ -127,6 +135,55 @@ class Differences(Seen):
         told = ["  one: 720x400, at 0.000", "  other: 640x400, at 0.000", "differing.png"]
         self.assertEqual((status, lines[4:]), (1, told))
         self.assertEqual(png_rows(out.read_bytes())[:2], (1440, 800))
+
+    def test_no_picture_is_written_where_none_differs(self) -> None:
+        out = self.folder / "differing.png"
+        status, lines = self.compare(MODE, MODE, "--picture", str(out))
+        self.assertEqual((status, lines[1:]), (0, [f"pictures: the first is equal{NO_MORE}"]))
+        self.assertFalse(out.exists())
+
+
+class Shown(unittest.TestCase):
+    def told(self, one: list[ShownPicture], other: list[ShownPicture]) -> list[str]:
+        """What is told of two recordings that show these pictures."""
+        output = io.StringIO()
+        both = [Recording("one", 1), Recording("other", 1)]
+        with contextlib.redirect_stdout(output):
+            _compare_pictures([iter(one), iter(other)], both, Progress(False))
+        return output.getvalue().splitlines()
+
+    def test_a_frame_without_a_picture_is_one_that_may_differ(self) -> None:
+        shown = ShownPicture("0.100", Picture.of_dots(1, 1, bytes(3)))
+        ragged = ShownPicture("0.200", None)
+        differs = "pictures: {}picture {} differs".format
+        first = "the first is equal; "
+        hold(
+            self,
+            self.told,
+            (
+                ([ragged], [ragged], [f"pictures: the first is equal{NO_MORE}"]),
+                (
+                    [shown, ragged],
+                    [shown],
+                    [differs(first, 2), "  one: ragged, at 0.200", "  other: no more"],
+                ),
+                (
+                    [ragged],
+                    [shown],
+                    [differs("", 1), "  one: ragged, at 0.200", "  other: 1x1, at 0.100"],
+                ),
+            ),
+        )
+
+    def test_of_frames_that_are_alike_the_first_is_shown(self) -> None:
+        given: list[str | bytes] = ["ragged", "ragged", SMALL, SMALL, "ragged", LARGE]
+        answers = list(enumerate(Report(stream(report(*given))).answers()))
+        walk: Any = SimpleNamespace(answers=lambda items: answers)
+        with ExitStack() as stack:
+            shown = list(Recording("one", 1).pictures(walk, stack))
+        sizes = [None, "2x1", None, "4x3"]
+        self.assertEqual([one.picture and one.picture.size for one in shown], sizes)
+        self.assertEqual([one.told for one in shown], [0, 2, 4, 5])
 
 
 class Options(Folder):

@@ -4,8 +4,10 @@ names, and the answers that they expect. And what is told where two elements dif
 from __future__ import annotations
 
 import json
+import unittest
 from typing import Any
 
+from zaklimot_tools.steps.checking import HeldFile
 from zaklimot_tools.steps.comparing import differences
 from zaklimot_tools.steps.kinds import KINDS
 from zaklimot_tools.steps.parts import BEAM, FINAL, INITIAL, Element
@@ -110,6 +112,31 @@ class Machines(Folder):
         width = max(map(len, KINDS))
         wanted = [f"{name:{width}}  {kind.told}" for name, kind in KINDS.items()]
         self.assertEqual((status, output.splitlines(), said), (0, wanted, ""))
+
+
+class Answered(unittest.TestCase):
+    def test_what_is_skipped_and_what_tells_nothing(self) -> None:
+        element = {**GOOD, "final": {"misc": 3}}
+
+        def counts(answer: Element) -> tuple[int, int, int]:
+            held = HeldFile("some")
+            held.judge(element, answer, 0)
+            return held.agree, held.differ, held.skipped
+
+        final = {"final": {"misc": 3}}
+        hold(
+            self,
+            counts,
+            (
+                ({"skipped": True}, (0, 0, 1)),
+                ({"skipped": True, **final}, (0, 0, 1)),
+                ({"skipped": False, **final}, (1, 0, 0)),
+                ({}, (0, 1, 0)),
+                # A part that the element hasn't is none of its state.
+                ({"final": {"dac_mask": 255}}, (0, 1, 0)),
+                ({"final": {"dac_mask": 255, "misc": 3}}, (1, 0, 0)),
+            ),
+        )
 
 
 class Differences(Folder):

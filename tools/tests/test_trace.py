@@ -9,11 +9,11 @@ from unittest import mock
 from zaklimot_tools.trace import trace as reading
 from zaklimot_tools.trace.converting import count
 from zaklimot_tools.trace.step import IN, OUT, TraceStep, steps_of, without_polls
-from zaklimot_tools.trace.trace import MEMORY, PORT, SCREEN, VBE, Cycle
+from zaklimot_tools.trace.trace import MEMORY, PORT, SCREEN, VBE, Call, Cycle
 
 from .test_conversions import SHAPE
 from .tools import hold, refused
-from .tracing import BEGIN, cycles, listed, qemu, texts, warned
+from .tracing import BEGIN, cycles, listed, qemu, texts, trace, warned
 
 
 # A trace with calls, dots and frames.
@@ -163,6 +163,15 @@ LACKING: tuple[tuple[bytes, list[str]], ...] = (
         + qemu("write 3c4 604 2"),
         [LACKING_ENABLED.replace("its memory isn't traced", "1 cycle of its memory is left out")],
     ),
+    (
+        # Memory that came before is none of VBE.
+        qemu("read b8000 41 1", "vga-lowmem") + lacking_vbe("4", "41") + LACKING_VESA,
+        [
+            LACKING_ENABLED.replace("cycle 3", "cycle 4").replace(
+                "its memory isn't traced", "1 cycle of its memory is left out"
+            )
+        ],
+    ),
     (lacking_vbe("4", "40"), []),
     (lacking_vbe("3", "1"), []),
     (LACKING_CHAINED, [LACKING_SILENT]),
@@ -239,6 +248,20 @@ class Lines(unittest.TestCase):
             self.assertEqual(refused(cycles, front + BEGIN), f"trace: {told}")
             named = refused(cycles, b"; none\nhello\n" + 2 * front)
             self.assertEqual(named, f"trace:2: {told}; this line is the first that is no comment")
+
+    def test_lines_of_blanks_and_small_digits(self) -> None:
+        passed = b" \n\r\n\t; a comment\r\n"
+        call = b"- int 1301 b 2 0 4a4b\r\n"
+        found = cycles(passed + call + passed + BEGIN.replace(b"\n", b"\r\n") + passed)
+        self.assertEqual([one.address for one in found], [0, 0x3C2])
+        call_found = Call((0x1301, 0x0B, 2, 0), b"JK")
+        self.assertEqual((found[0].call, found[0].time), (call_found, None))
+
+    def test_screens_and_polls_may_come_before_the_first_cycle(self) -> None:
+        screen = SCREEN + b"\n"
+        found = trace(screen + b"polls 3 of 'vga-trace'\n" + qemu("write 3c2 67 1") + screen)
+        self.assertEqual(len(list(found.cycles())), 1)
+        self.assertEqual((found.screens, found.polls), ([0, 1], 3))
 
     def test_lines_that_are_like_those_before(self) -> None:
         """Most lines of a log are looked up by those before them. What is damaged is damaged
