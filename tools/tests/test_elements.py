@@ -142,6 +142,13 @@ class Asking(Elements):
         )
         self.assertEqual(self.answered('{"skipped": true}'), {"skipped": True})
 
+    def test_between_two_answers_no_time_counts(self) -> None:
+        path = self.write("lines", 2 * "{}\n")
+        with asking.asked_adapter(f"cat {path}", 20) as adapter:
+            adapter.answer(GOOD, 0)
+            self.assertIsNone(adapter._asked)
+            self.assertEqual(adapter.answer(GOOD, 1), {})
+
     def answered(self, line: str) -> Element:
         """What is answered to the seventh element by a command that prints this line."""
         path = self.write("line", f"{line}\n")
@@ -360,6 +367,19 @@ class Machines(Elements):
             done = steps("reports", self.folder, path)
             number = f"{count} answer{'s' * (count != 1)}"
             hold_undone(self, done, f"it has {number}, and its script has {len(answers)} steps$")
+
+    def test_of_all_files_each_counts(self) -> None:
+        registers = {"seq": [3, 1, 15, 0, 4], "gfx": [0] * 6 + [4, 0, 255], "latches": [0] * 4}
+        put = {**GOOD, **{part: {**GOOD[part], **registers} for part in (INITIAL, FINAL)}}
+        paths = [self.elements(f"{name}.json", put) for name in ("one", "two")]
+        answers = self.answers(put)
+        wrong = ["08" if one == "07" else one for one in answers]
+        for name, given in (("one", wrong), ("two", answers)):
+            self.report(f"{name}/000000.report", *given)
+        status, output, _ = steps("reports", self.folder, *paths)
+        _, _, told = output.partition("\nof all files\n")
+        self.assertEqual((status, told.count(" 1 of 2  ")), (1, 3), output)
+        self.assertTrue(output.endswith("2 elements: 1 agree, 1 differ\n"))
 
     def test_what_a_machine_refuses_is_no_byte(self) -> None:
         # It isn't 00 either.

@@ -6,12 +6,23 @@ from __future__ import annotations
 import json
 import unittest
 from typing import Any
+from xml.etree import ElementTree
 
-from zaklimot_tools.steps.checking import HeldFile
+from zaklimot_tools.steps.checking import (
+    BranchCounts,
+    BranchName,
+    Branches,
+    FirstDiffering,
+    HeldFile,
+    _junit_text,
+    ranked,
+    worst,
+)
 from zaklimot_tools.steps.comparing import differences
 from zaklimot_tools.steps.kinds import KINDS
 from zaklimot_tools.steps.parts import BEAM, FINAL, INITIAL, Element
 from zaklimot_tools.steps.readback import readback_lines
+from zaklimot_tools.steps.rules import RULES
 
 from .stepping import GOOD, steps
 from .tools import Folder, hold
@@ -137,6 +148,40 @@ class Answered(unittest.TestCase):
                 ({"final": {"dac_mask": 255, "misc": 3}}, (1, 0, 0)),
             ),
         )
+
+
+class Counted(unittest.TestCase):
+    """Rules of files, by how many elements agree and differ."""
+
+    NAMES = [rule.name for rule in RULES[:3]]
+
+    def held(self, *counts: tuple[int, str, int, int]) -> HeldFile:
+        """A file whose elements show branches of rules, by the numbers of these."""
+        held = HeldFile("some")
+        for number, branch, agree, differ in counts:
+            name = BranchName(self.NAMES[number], branch)
+            held.counts[name] = BranchCounts(agree, differ)
+        return held
+
+    def test_all_files_count(self) -> None:
+        files = [self.held((0, "a", agree, differ)) for agree, differ in ((1, 2), (30, 4))]
+        self.assertEqual(ranked(files), [Branches(self.NAMES[0], "a", 31, 6)])
+
+    def test_of_rules_for_which_as_much_speaks_that_of_more_elements_is_first(self) -> None:
+        # One of one and two of six weigh as much.
+        held = self.held((0, "a", 0, 1), (1, "b", 4, 2), (2, "c", 5, 0))
+        self.assertEqual([one.rule for one in worst([held])], [self.NAMES[1], self.NAMES[0]])
+
+    def test_rules_that_agree_do_not_fail(self) -> None:
+        held = self.held((0, "a", 0, 1), (0, "b", 3, 0), (1, "c", 3, 0))
+        held.first = FirstDiffering(7, "a write", ["misc: 2, not 3"])
+        suite = ElementTree.fromstring(_junit_text([held]).partition("\n")[2])[0]
+        failed = {case.get("name"): [one.text for one in case] for case in suite}
+        self.assertEqual((suite.get("failures"), failed[self.NAMES[1]]), ("1", []))
+        (text,) = failed[self.NAMES[0]]
+        front = "the first of the file that differs: element 7, a write\nmisc: 2, not 3"
+        place = RULES[0].place
+        self.assertEqual(text, f"        1 of 1  {self.NAMES[0]}: a ({place})\n{front}")
 
 
 class Differences(Folder):

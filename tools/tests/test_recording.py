@@ -559,6 +559,13 @@ class Recorded(Folder):
         keeper.size = 0
         self.assertFalse(session.is_due(Deed()))
 
+    def test_software_that_goes_on_is_not_quiet(self) -> None:
+        now = time.monotonic()
+        for acted, last, wanted in ((900, 900, True), (900, 1, False), (1, 900, False)):
+            keeper = mock.Mock(size=5, last=now - last)
+            given = (QemuMachine((), quiet=500), mock.Mock(), keeper, self.folder, mock.Mock())
+            self.assertIs(Session(*given, acted=now - acted).is_due(Deed()), wanted)
+
     def test_a_time_is_that_since_power_on(self) -> None:
         now = time.monotonic()
         keeper = mock.Mock(size=0, last=now)

@@ -321,6 +321,39 @@ class RealTime(Folder):
         dots = sum(step.address for step in steps if step.opcode == ADVANCE)
         self.assertEqual(dots, 28_322_000 // 2)
 
+    def test_what_is_left_out_of_two_silences(self) -> None:
+        clocked = self.frames(1, (), 1.2, 701.2, 702.5, 1402.5, 1403.9)[1]
+        self.assertEqual(clocked.shortened, 2)
+        self.assertAlmostEqual(clocked.left_out, 2 * (700 * self.FRAME / 1e6 - 1), delta=0.04)
+        beamed = Beamed(0.5)
+        before = [step._replace(time=0) for step in registers(0x67, 0)]
+        writes = [TraceStep(OUT, 0x3C9, 0, time) for time in (3_000_000, 3_000_100, 7_000_100)]
+        list(beamed.steps([*before, *writes]))
+        self.assertEqual((beamed.shortened, beamed.left_out), (2, 2.5 + 3.5))
+
+    def test_where_the_beam_goes_on(self) -> None:
+        colour, line = (OUT, 0x3C9), 900 / 28.322
+
+        def write(time: float) -> TraceStep:
+            return TraceStep(OUT, 0x3C9, 0, round(time))
+
+        # No dots pass while the time runs back.
+        found = self.beamed(write(1000), write(400), write(900))
+        self.assertEqual(found, [(ADVANCE, 28322), colour, colour, (ADVANCE, 14161), colour])
+        # Polls of two ports tell no begin of the retrace.
+        polls = [TraceStep(IN, 0x3BA, 0, 990), TraceStep(IN, 0x3DA, 8, 1000)]
+        found = self.beamed(*polls, write(1000))
+        self.assertEqual(found, [(IN, 0x3BA), (ADVANCE, 28322), colour])
+        # A beam that stays is not set back for what comes later either.
+        time = round(415 * line)
+        edge = [TraceStep(IN, 0x3DA, value, time + value // 8) for value in (0, 8)]
+        found = self.beamed(write(time), *edge, write(time + 1), write(time + 1 + 10 * line))
+        self.assertAlmostEqual(found[-2][1], 10 * 900, delta=60)
+        # A retrace that begins below the frame begins in its last line.
+        edge = [TraceStep(IN, 0x3DA, value, 14_000 + value) for value in (0, 8)]
+        found = self.beamed(TraceStep(OUTW, 0x3D4, 0xFF10, 0), *edge, write(14_008))
+        self.assertEqual(found[-2:], [(ADVANCE, 448 * 900), colour])
+
     def test_pictures_of_a_beam(self) -> None:
         want_program()
         text = BEGIN + b"".join(

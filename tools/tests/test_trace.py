@@ -257,6 +257,28 @@ class Lines(unittest.TestCase):
         call_found = Call((0x1301, 0x0B, 2, 0), b"JK")
         self.assertEqual((found[0].call, found[0].time), (call_found, None))
 
+    def test_what_a_picture_lacks(self) -> None:
+        def lacking(data: bytes) -> str:
+            read = trace(data)
+            self.assertTrue(list(read.cycles()))
+            return read.lacking
+
+        silent = "chain 4 is on, and no memory was recorded since: --chain-4 does so"
+        off = b"- w p 3C4 0604 2\n"
+        dots = LACKING_CHAINED + b"1+5 r p 3CC 67 1\n"
+        hold(
+            self,
+            lacking,
+            (
+                (LACKING_CHAINED, silent),
+                # What was lacking before is of no picture that comes later.
+                (LACKING_CHAINED + off, ""),
+                (LACKING_CHAINED + off + b"- w p 3C4 0E04 2\n", silent),
+                (dots, ""),
+                (lacking_vbe("4", "41"), "VBE is on: what qemu shows is no VGA's"),
+            ),
+        )
+
     def test_screens_and_polls_may_come_before_the_first_cycle(self) -> None:
         screen = SCREEN + b"\n"
         found = trace(screen + b"polls 3 of 'vga-trace'\n" + qemu("write 3c2 67 1") + screen)
