@@ -300,6 +300,21 @@ class Kept(Folder):
         words = ["-drive", f"file={disc},format=raw", "-kernel", rom, "-m", "512", "-device", "VGA"]
         sums = {name: hashlib.sha256(Path(name).read_bytes()).hexdigest() for name in (disc, rom)}
         self.assertEqual(digests_of(words), sums)
+        # A folder has none; and a name may have the sign that stands before it.
+        odd = self.write("a=b.img", b"odd")
+        digest = hashlib.sha256(b"odd").hexdigest()
+        words = ["-L", str(self.folder), "-drive", f"file={odd}"]
+        self.assertEqual(digests_of(words), {odd: digest})
+
+    def test_where_a_zip_ends(self) -> None:
+        self.keep()
+        # What looks like an end may stand within a file that it has.
+        other = self.rewritten(**{"screen-9_ppm": b"PK\5\6" + 18 * b"\xff"})
+        with unpacked(str(other)) as made:
+            self.assertTrue((made / "screen-9.ppm").exists())
+        self.write("cut.zip", self.zip.read_bytes()[:-1])
+        cut = str(self.folder / "cut.zip")
+        self.assertEqual(refused(unpacked(cut).__enter__), f"{cut}: it is no whole ZIP")
 
 
 def packed(data: bytes = TRACE) -> bytes:

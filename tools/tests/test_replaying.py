@@ -19,7 +19,7 @@ from zaklimot_tools.trace.beamed import Beamed
 from zaklimot_tools.trace.clocked import Clocked
 from zaklimot_tools.trace.folding import Folding
 from zaklimot_tools.trace.keeper import Keeper
-from zaklimot_tools.trace.parts import Parts
+from zaklimot_tools.trace.parts import Parts, parts_of
 from zaklimot_tools.trace.replaying import ALLOWED, PAGE, SEEN, Screen, whole_rows
 from zaklimot_tools.trace.state import State
 from zaklimot_tools.trace.step import ADVANCE, FRAME, IN, INT, OUT, OUTW, PUT, TraceStep
@@ -436,6 +436,33 @@ class Keeping(Folder):
                 keeper.run()
             into.close()
         self.assertEqual(keeper.frame_polls, 3)
+
+    def test_where_parts_end_and_how_much_they_have(self) -> None:
+        line = b"abcd\n"
+        sizes = []
+        for most, count in ((len(line), 3), (len(line) + 1, 2)):
+            with mock.patch.object(parts, "PART_LINES", most):
+                kept = Parts(self.folder)
+                for _ in range(3):
+                    kept.write(line)
+                first = parts_of(self.folder)[0].stat().st_size
+                self.assertEqual(len(parts_of(self.folder)), count)
+                self.assertGreaterEqual(kept.kept, first)
+                kept.close()
+            sizes.append([path.stat().st_size for path in parts_of(self.folder)])
+            self.assertEqual(kept.kept, sum(sizes[-1]))
+            kept.drop()
+            self.assertEqual(parts_of(self.folder), [])
+
+    def test_a_last_line_without_an_end(self) -> None:
+        lines = qemu("read 3da 0 1") * 3 + qemu("write 3c2 67 1")[:-1]
+        with open(self.write("log", lines), "rb") as log:
+            into = Parts(self.folder)
+            Keeper(log, into, Folding()).run()
+            into.close()
+        kept = gzip.decompress((self.folder / "trace.gz").read_bytes())
+        wanted = qemu("read 3da 0 1") + b"polls 2 of 'vga-trace'\n" + qemu("write 3c2 67 1")
+        self.assertEqual(kept, wanted)
 
     def test_the_last_screen_has_as_much_room_again(self) -> None:
         full = "its trace has 10 bytes, as they are packed"
