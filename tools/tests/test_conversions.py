@@ -3,6 +3,7 @@ script, and what is told of steps that were refused or differ."""
 
 from __future__ import annotations
 
+import os
 import re
 import struct
 from io import BytesIO
@@ -23,6 +24,7 @@ from .tools import (
     ppm,
     report,
     run_program,
+    run_tool,
     want_program,
 )
 from .tracing import BEGIN, listed, qemu, run, trace
@@ -167,6 +169,13 @@ class Figures(Folder):
         self.assertEqual(
             told, ["           1 read port 3DA size 1", "           1 read port 3DA or 3BA, folded"]
         )
+
+    def test_a_trace_whose_name_begins_with_a_dash(self) -> None:
+        self.write("-odd.log", qemu("read 3cc 67 1"))
+        done = run_tool(
+            "vga-trace", "kinds", "--", "-odd.log", prepare=lambda: os.chdir(self.folder)
+        )
+        self.assertEqual(done, (0, b"           1 read port 3CC size 1\n", ""))
 
     def test_polls_that_were_folded_are_those_of_the_part(self) -> None:
         rows = (3, 20, 100)

@@ -8,6 +8,7 @@ import unittest
 from typing import Any
 from xml.etree import ElementTree
 
+from zaklimot.format import REGISTERS
 from zaklimot_tools.steps.checking import (
     BranchCounts,
     BranchName,
@@ -22,6 +23,7 @@ from zaklimot_tools.steps.comparing import differences
 from zaklimot_tools.steps.kinds import KINDS
 from zaklimot_tools.steps.parts import BEAM, FINAL, INITIAL, Element
 from zaklimot_tools.steps.readback import readback_lines
+from zaklimot_tools.steps.reading import fault_of
 from zaklimot_tools.steps.rules import RULES
 
 from .stepping import GOOD, steps
@@ -146,6 +148,28 @@ class Answered(unittest.TestCase):
                 # A part that the element hasn't is none of its state.
                 ({"final": {"dac_mask": 255}}, (0, 1, 0)),
                 ({"final": {"dac_mask": 255, "misc": 3}}, (1, 0, 0)),
+            ),
+        )
+
+
+class Blocks(unittest.TestCase):
+    def test_as_many_bytes_as_a_block_may_have(self) -> None:
+        registers: Element = dict.fromkeys(REGISTERS, 0)
+
+        def fault(*counts: int) -> str:
+            step, answer = ({**registers, "block": [0] * count} for count in counts)
+            called = {"name": "a call", "int": step, "answer": answer, INITIAL: {}, FINAL: {}}
+            return fault_of(called)
+
+        most = 0xFFFF
+        hold(
+            self,
+            fault,
+            (
+                (0, most, ""),
+                (most, 0, ""),
+                (most + 1, 0, "its step int has not the numbers that it takes"),
+                (0, most + 1, "its answer is none of the step int"),
             ),
         )
 
