@@ -351,6 +351,11 @@ class Recorded(Folder):
             # The one that was there stays.
             self.assertEqual((list(own.iterdir()), (self.folder / "a").exists()), ([], False))
 
+    def test_a_folder_with_files_that_are_no_recording(self) -> None:
+        self.write("own/mine", "x")
+        done = run("record", self.folder / "own", "--vga", self.answering("ok"), "--", "-x")
+        hold_undone(self, done, "own: it has files: name a new folder$")
+
     def test_what_was_recorded_before_a_trouble_stays(self) -> None:
         first = "qmp_capabilities"
         for words, told, last in (
