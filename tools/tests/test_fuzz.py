@@ -249,7 +249,9 @@ class Fuzzing(Folder):
         found = mock.patch.object(command, "found_program", return_value=self.program_that())
         with found, mock.patch.object(Program, "feed", return_value="done"):
             status, lines, said = self.run_command()
+            unnamed = self.run_command("")
         self.assertEqual((status, lines[-2], said), (0, "0 with something wrong", ""))
+        hold_undone(self, (unnamed[0], "", unnamed[2]), "^vga-fuzz: : it is no program; ")
         none = self.run_command(self.write("none", ""))
         hold_undone(self, (none[0], "", none[2]), "none: it is no program; ")
 

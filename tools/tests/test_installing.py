@@ -146,6 +146,17 @@ class Installing(Folder):
             self.assertEqual(list(place.parent.iterdir()), [place])
         self.assertFalse((self.folder / "notes").exists())
 
+    def test_empty_names_are_no_names(self) -> None:
+        # A prefix that is given goes before that of the environment, be it empty. Nothing is laid.
+        laid = mock.Mock(side_effect=AssertionError)
+        with mock.patch.object(command, "make_library", laid):
+            for words, told in (
+                (("install", "--prefix", ""), ": a prefix begins with a slash"),
+                (("make", ""), "the name of a file is empty"),
+            ):
+                done = call(main_of("vga-library"), *words, "--archive", self.archive, *ARM)
+                hold_undone(self, done, f"^vga-library: {told}\n$")
+
     def test_an_archive_that_is_given_is_not_kept(self) -> None:
         folder = self.folder / "made"
         with mock.patch.object(making, "FOLDER", folder):

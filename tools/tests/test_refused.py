@@ -103,6 +103,7 @@ REFUSED = {
     "library install --prefix /usr --libdir /lib": (
         "vga-library: /lib: the folder of libraries is named from the prefix"
     ),
+    "library make {o} --archive ": "vga-library: the name of a file is empty\n",
     "release {s}": "s.vga: it is not a folder",
     "release {o} --program /dev/zero": "/dev/zero: there is no such file",
     "page make {s}/page": "there is no such folder",

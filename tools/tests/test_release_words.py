@@ -141,6 +141,15 @@ class Entries(Folder):
                 hold_undone(self, done, told)
         self.assertEqual(self.names(), [])
 
+    def test_empty_names_are_no_names(self) -> None:
+        begun = mock.Mock(side_effect=AssertionError)
+        with mock.patch.object(release, "clean_commit", begun):
+            for words in ("", *(f"r {option} " for option in ("--program", "--archive"))):
+                first, *others = words.split(" ")
+                folder = str(self.folder / first) if first else ""
+                done = call(main_of("vga-release"), folder, *others)
+                hold_undone(self, done, "^vga-release: the name of a file is empty\n$")
+
 
 class Commits(Folder):
     def test_the_first_of_what_is_changed_is_told(self) -> None:

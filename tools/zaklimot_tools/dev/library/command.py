@@ -6,7 +6,7 @@ import tempfile
 from pathlib import Path
 from typing import Optional
 
-from zaklimot_tools.core.files import check_folder
+from zaklimot_tools.core.files import NO_NAME, check_folder
 from zaklimot_tools.core.processes import check_program
 from zaklimot_tools.core.progress import Progress
 from zaklimot_tools.core.streams import write_file
@@ -32,8 +32,10 @@ from .words import USUAL_PREFIX
 
 def check_given(*paths: Optional[str]) -> None:
     """Ends the work where one of these is given and is no file."""
-    for path in filter(None, paths):
-        if not os.path.isfile(path):
+    for path in paths:
+        if path == "":
+            raise Trouble(NO_NAME)
+        if path is not None and not os.path.isfile(path):
             raise Trouble("there is no such file", path)
 
 
@@ -79,12 +81,15 @@ def _lay(
 
 def make(words: argparse.Namespace, progress: Progress) -> None:
     """Makes the library in a folder."""
+    check_folder(words.folder)
     _lay(words, Place(words.folder), MOVING, progress)
 
 
 def install(words: argparse.Namespace, progress: Progress) -> None:
     """Installs the library below a prefix."""
-    prefix = words.prefix or os.environ.get("PREFIX") or USUAL_PREFIX
+    prefix = words.prefix
+    if prefix is None:
+        prefix = os.environ.get("PREFIX") or USUAL_PREFIX
     if not os.path.isabs(prefix):
         raise Trouble("a prefix begins with a slash", prefix)
     if os.path.isabs(words.libdir):

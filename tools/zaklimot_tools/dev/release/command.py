@@ -393,6 +393,7 @@ def release(words: argparse.Namespace, progress: Progress) -> None:
         count = words.count or COUNT
         archives[STEPS] = steps_entries(commit, archives.get(MACHINE, {}), tell, count)
     progress.clear()
-    words.folder.mkdir(parents=True, exist_ok=True)
+    folder = Path(words.folder)
+    folder.mkdir(parents=True, exist_ok=True)
     for kind in sorted(archives, reverse=True):
-        write_archive(words.folder, kind, archives[kind], commit.time)
+        write_archive(folder, kind, archives[kind], commit.time)

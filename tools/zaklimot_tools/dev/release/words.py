@@ -2,7 +2,6 @@
 
 import argparse
 from functools import partial
-from pathlib import Path
 
 from zaklimot_tools.core import cli
 from zaklimot_tools.core.cli import later, rule
@@ -27,7 +26,7 @@ def _parser() -> argparse.ArgumentParser:
         "tools/vga-release release",
         "docs/RELEASES.md",
     )
-    parser.add_argument("folder", type=Path, metavar="FOLDER", help="where the archive goes")
+    parser.add_argument("folder", metavar="FOLDER", help="where the archive goes")
     cli.add(
         parser,
         "--program FILE",
