@@ -5,11 +5,13 @@ from __future__ import annotations
 
 import unittest
 from dataclasses import replace
+from typing import Sequence
 
 from zaklimot.format import Step
 from zaklimot_tools.picture.cells import (
     BLANK_ATTRIBUTE,
     Chosen,
+    font_of,
     loading,
     own_glyphs,
     put_cells,
@@ -21,7 +23,7 @@ from zaklimot_tools.picture.mode import MODES, text_of
 from zaklimot_tools.picture.steps import Item
 
 from .test_picture import BLACK, WHITE
-from .tools import hold
+from .tools import hold, refused
 
 # What a mode set leaves.
 BLANK = Chosen(0, 0x20, BLANK_ATTRIBUTE)
@@ -39,10 +41,10 @@ def told_of(item: Item) -> tuple[tuple[int, ...], bytes, int]:
 
 
 class Own(unittest.TestCase):
-    def made(self, free: int, *cells: tuple[bytes, int]) -> dict[int, bytes]:
+    def made(self, free: Sequence[int], *cells: tuple[bytes, int]) -> dict[int, bytes]:
         """The glyphs for cells that would have these, each so far from the image by the font;
-        where so many characters are free from 01 on."""
-        kept = [at for at in range(256) if at not in (*range(1, free + 1), 0x20)]
+        where these characters show no cell as it is."""
+        kept = [at for at in range(256) if at not in (*free, 0x20)]
         chosen = [Chosen(0, character, 7) for character in kept]
         chosen += [Chosen(error, 0x20, 7) for _, error in cells]
         drawn = [cell_of(bytes(16))] * len(kept) + [cell_of(glyph) for glyph, _ in cells]
@@ -56,7 +58,7 @@ class Own(unittest.TestCase):
         cells = [(many, 10)] * 3 + [(least, 5)] * 4 + [(few, 50), (some, 40)]
         hold(
             self,
-            lambda free: self.made(free, *cells),
+            lambda free: self.made(range(1, free + 1), *cells),
             (
                 (0, {}),
                 (1, {1: few}),
@@ -65,6 +67,12 @@ class Own(unittest.TestCase):
                 (9, {1: few, 2: some, 3: many, 4: least}),
             ),
         )
+
+    def test_characters_that_repeat_a_dot_keep_their_glyphs(self) -> None:
+        glyphs = [bytes([at]) * 16 for at in (1, 2, 3, 4)]
+        cells = [(glyph, 90 - at) for at, glyph in enumerate(glyphs)]
+        made = self.made((5, 0xBF, 0xC0, 0xDF, 0xE0), *cells)
+        self.assertEqual(made, dict(zip((5, 0xBF, 0xE0), glyphs)))
 
     def test_a_cell_that_gains_nothing_gets_none(self) -> None:
         # Its ninth dots have both colours, which no glyph shows.
@@ -108,6 +116,13 @@ class Own(unittest.TestCase):
 
 
 class Loading(unittest.TestCase):
+    def test_the_glyphs_of_a_font_file(self) -> None:
+        parts = [bytes([height]) * (256 * height) for height in (8, 14, 16)]
+        for part in parts:
+            self.assertEqual(font_of(b"".join(parts), part[0], "f"), part)
+        told = refused(font_of, b"".join([*parts, b"x"]), 16, "f")
+        self.assertEqual(told, "f: a font file has 9,728 bytes, and this has 9,729")
+
     def test_characters_side_by_side_are_loaded_at_once(self) -> None:
         # In AX, BX, CX and DX, with the cycles of the glyphs alone.
         glyphs = {7: b"7" * 8, 3: b"3" * 8, 4: b"4" * 8}

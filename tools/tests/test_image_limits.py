@@ -132,6 +132,8 @@ class Held(Folder):
                 (dark, png(2, 1, b"\0" + bytes(range(6))), "2x1, six bits a component"),
                 (bright, png(1, 2, bytes(5) + b"\xff\xff\xff"), f"1x2, {eight}"),
                 (bright, png(1, 2, bytes(5) + WHITE), "1x2, six bits a component"),
+                # One that is alike in either way is read as it stands.
+                (Picture.of_dots(1, 1, BLACK), png(1, 1, bytes(4)), "1x1, six bits a component"),
             ),
         )
 
@@ -217,6 +219,15 @@ class Colours(Folder):
         dots = b"".join(rows)
         drawn = sum(dots) / len(dots)
         self.assertLess(abs(mean - drawn), 1)
+
+    def test_as_many_colours_as_the_mode_has_are_not_dithered(self) -> None:
+        # Their low bits would make the nearest six bits others than the six high ones.
+        shades = [(b"\0" + bytes([value * 16 + 3]) * 960) * 12 for value in range(16)]
+        image = png(320, 200, b"".join(shades) + (b"\0" + b"\x03" * 960) * 8)
+        nearest = made_of(image, "--mode", "0D", "--nearest")
+        self.assertIn("16 colours;", nearest[0])
+        for way in ("ordered", "floyd"):
+            self.assertEqual(made_of(image, "--mode", "0D", "--dither", way), nearest, way)
 
     def test_entries_of_a_palette_that_are_clear(self) -> None:
         # As many as the palette has, and as many as a palette may have at most.

@@ -294,7 +294,8 @@ class Modules64(Making):
             self.assertRegex(line, r"PROVING --keeps /\S+/vga-page-\w+/proof ")
 
     def test_a_compiler_that_does_not_say_that_it_is_proved(self) -> None:
-        for says in ("logic=proved target=x86_64", "logic=tried target=wasm64-unknown-unknown", ""):
+        native, tried = "logic=proved target=x86_64", "logic=tried target=wasm64-unknown-unknown"
+        for says in (native, tried, f"{native}\n{tried}", ""):
             with mock.patch.dict(os.environ, SAYS=says):
                 told = refused(making.made_module, self.words(), self.progress)
             self.assertEqual(

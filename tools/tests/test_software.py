@@ -6,17 +6,20 @@ from __future__ import annotations
 import gzip
 import os
 from pathlib import Path
+from types import SimpleNamespace
+from typing import Any, Optional
 from unittest import mock
 
 from zaklimot_tools.dev.emulators import traces
-from zaklimot_tools.dev.emulators.traces import SOFTWARE
+from zaklimot_tools.dev.emulators.traces import SOFTWARE, Software, TableRow
 from zaklimot_tools.dev.emulators.words import SOFTWARE as NAMES
 from zaklimot_tools.explain.faults import script_of
 from zaklimot_tools.floppy.image import image_for
 from zaklimot_tools.report.places import SUITE
+from zaklimot_tools.trace.parts import TRACE
 from zaklimot_tools.trace.recording import QemuMachine
 
-from .tools import Folder, patched, refused
+from .tools import Folder, call, hold_undone, main_of, patched, refused
 
 SEA = "VGA,romfile=/usr/share/seabios/vgabios-stdvga.bin"
 LGPL = "VGA,romfile=/usr/share/vgabios/vgabios.bin"
@@ -111,3 +114,71 @@ class Machines(Folder):
         self.assertEqual(words[2:], ["-kernel", f"{self.folder}/unpacked/boot/memtest86+x64.bin"])
         self.assertRegex(refused(self.machine, "linux"), "there is no bin/busybox$")
         self.assertFalse(Path(self.made, "linux.initrd").exists())
+
+
+class Rows(Folder):
+    """The command over software of this test, of which qemu and the replay are fakes."""
+
+    def setUp(self) -> None:
+        super().setUp()
+        self.recorded: list[tuple[str, object]] = []
+        # Software that is replayed otherwise than it is known.
+        self.wrong = ""
+
+    def record(self, machine: Any, folder: Path, tell: Any, _: object) -> None:
+        self.recorded.append((folder.name, machine.words[0]))
+        (folder / TRACE).write_bytes(b"")
+        tell("it is recorded")
+
+    def row(self, name: str, _: object, refused: int, dots: int) -> TableRow:
+        return TableRow(f"{name} {refused} {dots}", name not in self.wrong)
+
+    def replayed(self, *words: str) -> tuple[int, list[str], list[str]]:
+        """The status, the rows behind the head, and what is said."""
+
+        def replay(folder: Path, *_: object) -> Any:
+            warnings = ["it is short"] * (folder.name == "b")
+            return SimpleNamespace(listing=SimpleNamespace(warnings=lambda: warnings))
+
+        def make(_: Path, unpacked: Optional[Path]) -> QemuMachine:
+            return QemuMachine([str(unpacked)])
+
+        software = {
+            "a": Software(make),
+            "b": Software(make, refused=2, dots=3),
+            "u": Software(make, is_unpacked=True),
+        }
+        faked = {"SOFTWARE": software, "record": self.record, "replay": replay, "row": self.row}
+        with patched(traces, {**faked, "found_program": lambda **_: "vga"}):
+            status, output, said = call(main_of("vga-emulators"), "record", self.folder, *words)
+        head = f"{traces.HEADER}\n"
+        self.assertTrue(output.startswith(head) or status == 2, output)
+        return status, output[len(head) :].splitlines(), said.splitlines()
+
+    def test_one_that_is_otherwise_is_enough(self) -> None:
+        for wrong, status in (("", 0), ("a", 1), ("b", 1), ("ab", 1)):
+            self.wrong = wrong
+            self.assertEqual(self.replayed()[:2], (status, ["a 0 0", "b 2 3"]), wrong)
+
+    def test_what_is_recorded_is_not_recorded_again(self) -> None:
+        told = ["a: it is recorded", "b: it is recorded", "b: it is short"]
+        left_out = "u: left out, since --unpacked names no folder"
+        self.assertEqual(self.replayed()[2], [*told, left_out])
+        self.assertEqual(self.replayed()[2], ["b: it is short", left_out])
+        self.assertEqual(self.recorded, [("a", "None"), ("b", "None")])
+        # The trace of one may be taken away.
+        (self.folder / "a" / TRACE).unlink()
+        self.replayed()
+        self.assertEqual(self.recorded[2:], [("a", "None")])
+
+    def test_packages_that_are_unpacked(self) -> None:
+        packages = str(self.folder / "packages")
+        status, rows, said = self.replayed("u", "--unpacked", packages)
+        self.assertEqual((status, rows, said), (0, ["u 0 0"], ["u: it is recorded"]))
+        self.assertEqual(self.recorded, [("u", packages)])
+
+    def test_those_that_are_named(self) -> None:
+        self.assertEqual(self.replayed("b", "a")[1], ["b 2 3", "a 0 0"])
+        status, rows, said = self.replayed("a", "y", "b", "x")
+        told = "^vga-emulators: there is no software x, y$"
+        hold_undone(self, (status, rows, "\n".join(said)), told)
