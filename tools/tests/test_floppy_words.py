@@ -189,6 +189,15 @@ class Scripts(Folder):
             self.assertEqual(run("make", self.folder / "scripts", image), (0, b"", ""))
             self.assertEqual(image.read_bytes(), wanted, listed)
 
+    def test_long_names_are_counted_in_bytes(self) -> None:
+        script = script_of(b"in 3CC\n", "it")
+        for name in ("\u00e9" * 127 + "x", "\udce9" * 255):
+            (named,) = Table(table_for({name: script}), "it").scripts()
+            self.assertEqual(named.name, name)
+        for name in ("\u00e9" * 128, "\udce9" * 256):
+            told = refused(table_for, {name: script})
+            self.assertEqual(told, f"{name}: the name of a script has at most 255 bytes")
+
     def test_names_that_are_no_ascii(self) -> None:
         name = "d\u00e9p\u00f4t/\u00e9t\u00e9"
         self.write(f"scripts/{name}.vga", "in 3CC\n")

@@ -113,6 +113,10 @@ class Own(unittest.TestCase):
         wanted = _wanted(bytes([0, 0, 0, 0, 0, 0, 0, 1]) * 8, [BLACK, WHITE], 8)
         self.assertEqual(wanted.error, 0)
         self.assertIn(wanted.glyph, (b"\x01" * 8, b"\xfe" * 8))
+        # One of a third colour is off once: by 3 in each component, from the nearer of both.
+        colours: list[Colour] = [BLACK, WHITE, (60, 60, 60)]
+        wanted = _wanted(bytes([0, 1, 0, 1, 0, 1, 0, 1, 2]) * 16, colours, 9)
+        self.assertEqual(wanted, (16 * 9 * 9, b"\xaa" * 16))
 
 
 class Loading(unittest.TestCase):
