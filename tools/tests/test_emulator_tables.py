@@ -10,6 +10,7 @@ from unittest import mock
 
 from zaklimot_tools.dev.emulators import table_page
 from zaklimot_tools.dev.emulators.table_page import FIRST_MARK, LAST_MARK
+from zaklimot_tools.floppy import running
 from zaklimot_tools.floppy.running import MACHINES
 
 from .tools import Folder, call, hold, hold_undone, main_of
@@ -101,6 +102,27 @@ class Tables(Folder):
             one = self.results("one", "--on dosbox", rule(name, case("a/1", "skipped")))
             self.assertEqual(self.table(two, one)[0], 0)
             self.assertEqual(self.rows()[-1], ["Only.", "`a/1`", "5, not 6", "not compared"])
+
+    def test_a_rule_of_two_folders(self) -> None:
+        rules = [
+            rule("One.", case(name, "differs", 1, differing=1, answered=answer, expected="0"))
+            for name, answer in (("a/1", "5"), ("b/1", "6"))
+        ]
+        self.assertEqual(self.table(self.results("one", "--on qemu", *rules)), (0, "", ""))
+        wanted = [["One.", "`a/1`", "5, not 0"], ["One.", "`b/1`", "6, not 0"]]
+        self.assertEqual(self.rows()[-2:], wanted)
+
+    def test_the_video_bios_that_was_compared(self) -> None:
+        found = rule("R.", case("a/1", "agrees", 1))
+        results = [
+            self.results(str(at), f"--on qemu{words}", found)
+            for at, words in enumerate(("", " --bios sea", " --bios=lgpl"))
+        ]
+        with mock.patch.object(running, "_package_version", lambda package: f"of {package}"):
+            self.assertEqual(self.table(*results), (0, "", ""))
+        bioses = ("", " with SeaVGABIOS of seabios", " with LGPL VGABios of vgabios")
+        told = ", ".join(f"qemu q 1{bios}" for bios in bioses)
+        self.assertIn(f"\nCompared were {told}.\n", self.page.read_text("utf-8"))
 
     def test_answers_in_a_cell(self) -> None:
         hold(

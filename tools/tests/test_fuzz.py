@@ -267,6 +267,10 @@ class Fuzzing(Folder):
         keep = self.folder / "kept"
         status, lines, _ = self.run_command(self.program_that("sys.exit(3)"), "--keep", str(keep))
         self.assertEqual((status, lines[-2]), (1, "4 with something wrong"))
+        # They are counted as all others, and in the way in which they were made.
+        self.assertRegex(lines[4], "^seed 3: 4 inputs in ")
+        counts = Counter({line[10:]: int(line[:9]) for line in lines[5:-2]})
+        self.assertEqual((counts.pop("wrong"), sum(counts.values())), (4, 4))
         self.assertRegex(
             lines[0], r"^input 1 \([a-z, ]+\): vga (run|go): status 3, and it says ''$"
         )

@@ -160,7 +160,9 @@ class Installing(Folder):
     def test_an_archive_that_is_given_is_not_kept(self) -> None:
         folder = self.folder / "made"
         with mock.patch.object(making, "FOLDER", folder):
-            self.assertEqual(self.install()[0], 0)
+            # Nor does it ask for a compiler of the toolchain.
+            for words in ((), ("--backend", "rattle")):
+                self.assertEqual(self.install(*words)[0], 0)
             self.assertFalse(folder.exists())
 
     def test_making_proves_anew_and_installing_takes_what_was_made(self) -> None:

@@ -297,6 +297,7 @@ class Pages(Folder):
                 ("; A screen. Numbers are\n; hexadecimal.\n\nframe\n", "A screen."),
                 ("\n; one\n\n; two\n", "one"),
                 ("; A screen\n; of text.\nframe ; a picture\n", "A screen of text."),
+                ("; Text by vga.c at 3.5 MHz! And more.\n", "Text by vga.c at 3.5 MHz!"),
                 ("frame\n; more.\n", ""),
                 ("", ""),
             ),

@@ -102,6 +102,12 @@ class Words(Folder):
         hold_undone(self, done, "^vga-picture: the script would be longer than 16,777,216 bytes or")
         self.assertEqual(self.names(), ["image"])
 
+    def test_a_script_is_not_written_without_its_picture(self) -> None:
+        image = self.write("image", ppm_of([[RED] * 320] * 200))
+        words = ("script", image, self.folder / "s", "--mode", "13", "--picture", "/dev/full")
+        hold_undone(self, call(main, *words), "^vga-picture: /dev/full: ")
+        self.assertEqual(self.names(), ["image"])
+
     def test_the_glyphs_are_those_of_the_font_that_is_named(self) -> None:
         # Of a font in which A and B have each other's glyphs, the project's A is B: white, which is
         # colour 1, on black.

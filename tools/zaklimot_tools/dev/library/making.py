@@ -260,7 +260,6 @@ def make_shared(whole: Path, folder: Path, told: Version, target: Target) -> Non
     options += ["-Wl,-z,relro", "-Wl,-z,now"]
     run([target.compiler(), *options, "-o", folder / file, whole])
     for link in (soname, f"lib{NAME}.so"):
-        (folder / link).unlink(missing_ok=True)
         (folder / link).symlink_to(file)
 
 
