@@ -14,13 +14,13 @@ from unittest import mock
 
 from zaklimot_tools.core.progress import Progress
 from zaklimot_tools.core.trouble import Wrong
-from zaklimot_tools.dev.page import command, editor, machine, making, sections
+from zaklimot_tools.dev.page import command, editor, machine, making, page, sections
 from zaklimot_tools.dev.page.machine import MachineModules
 from zaklimot_tools.dev.page.making import check_module, kit_of, with_kit
 from zaklimot_tools.dev.page.packing import in_base64, packed, unzipped
 
-from .test_page import NATIVE, Modules, module_of
-from .tools import Folder, call, hold, main_of, patched, refused, run_tool
+from .test_page import FRAME, NATIVE, Modules, module_of
+from .tools import Folder, call, hold, hold_refused, main_of, patched, refused, run_tool
 
 ARCHIVE = "libx86emu_3.5.orig.tar.gz"
 RIGHT = module_of(Modules.right)
@@ -408,6 +408,31 @@ class Blocks(Folder):
             sections.anchor_of(word) for word in ("`int` 10: A_b, c", "3C0, 3C1", "\u00dcber")
         ]
         self.assertEqual(anchors, ["int-10-a_b-c", "3c0-3c1", "ber"])
+
+    def test_each_script_of_a_part_of_the_tutorial_has_its_file(self) -> None:
+        script = "```\n{}\n```\n\n".format
+        file = "In a terminal: `tools/vga-report run examples/tutorial/{}.vga`.\n\n".format
+        one, other = script("frame"), script("; Bytes.\nin 3DA")
+        front = f"# T\n\n## Two\n\n{one}{file('one')}{other}"
+        made = page.tutorial(front + file("b-c"))
+        self.assertEqual(
+            [tuple(each.values()) for each in made],
+            [("one", "Two", "", "frame\n"), ("b-c", "Two", "Bytes.", "; Bytes.\nin 3DA\n")],
+        )
+        told = refused(page.tutorial, front + "## Three\n")
+        self.assertEqual(told, "TUTORIAL.md: a script of part Two has no file")
+
+    def test_what_a_browser_takes_for_an_end(self) -> None:
+        none = editor.Editor("", "", "")
+        hold_refused(
+            self,
+            lambda *sources: page.page_text(page.Sources(FRAME, *sources), {}),
+            (
+                ("", "", none._replace(style="</STYLE"), "^style.css: .* for the end of the style"),
+                ("", "a = '</SCRIPT'", none, "^main.js: a page would take </SCRIPT for the end of"),
+                ("", "", none._replace(script="</script"), "^the editor: a page would take </scri"),
+            ),
+        )
 
     def test_sections_end_at_the_next_of_their_rank(self) -> None:
         text = "# T\n\nt\n\n## A\n\na\n\n### B\n\nb\n\n#### C\n\nc\n\n### D\n\nd\n\n## E\n"
