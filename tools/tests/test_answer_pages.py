@@ -13,7 +13,7 @@ from zaklimot_tools.explain.faults import script_of
 from zaklimot_tools.floppy import rows
 from zaklimot_tools.floppy.image import image_for
 
-from .floppy import Machine, machine, row
+from .floppy import PAGE, Machine, check_of, machine, row
 from .tools import Folder, run_tool
 
 
@@ -170,6 +170,10 @@ class PagesOfAnswers(Folder):
         # Of page 2 another check alone is known.
         text = "\n".join([row(0x8002, b"\1\2"), self.lines((0, 2), (2, 22))])
         told = "image: page 2 has other answers than its check tells\n"
+        self.assertEqual(self.refusal(text), told)
+        # The page of checks has it alone, behind that of page 1.
+        checks = check_of(bytes(self.machine.answers[:PAGE])) + b"\1\2"
+        text = "\n".join([row(0x8001, checks), self.lines((0, 2), (2, 22))])
         self.assertEqual(self.refusal(text), told)
         for bad in (row(9000, bytes(24)), row(0xFFFF, bytes(6))):
             told = "rows.txt:1: the row is none that a machine shows\n"

@@ -8,7 +8,7 @@ from typing import NamedTuple
 
 from zaklimot.format import Block, Step
 from zaklimot_tools.picture.mode import MODES
-from zaklimot_tools.picture.screen import Areas, CellWindow, scroll
+from zaklimot_tools.picture.screen import Areas, CellWindow, put_steps, scroll
 from zaklimot_tools.picture.steps import Item
 
 from .tools import hold
@@ -120,3 +120,24 @@ class Drawn(unittest.TestCase):
         self.assertTrue(all(offset % 40 < 8 for offset in offsets))
         # Each turn takes the cycles of its steps.
         self.assertEqual(item.cycles, 4 * (2 * 8 * 8 * 4 + 8 + len(drawing) + 1))
+
+
+class Bytes(unittest.TestCase):
+    def told(self, *offsets: int) -> list[str]:
+        """The steps that write bytes at these offsets, each its offset."""
+        steps = [item.step for item in put_steps({offset: offset for offset in offsets})]
+        return [f"{one.name} {one.numbers[1]:X}" for one in steps if isinstance(one, Step)]
+
+    def test_two_side_by_side_are_a_word(self) -> None:
+        hold(
+            self,
+            self.told,
+            (
+                ([],),
+                (0, ["put 0"]),
+                (1, 0, ["putw 100"]),
+                (5, 6, 7, ["putw 605", "put 7"]),
+                (2, 3, 4, 5, ["putw 302", "putw 504"]),
+                (1, 3, 4, 6, ["put 1", "putw 403", "put 6"]),
+            ),
+        )

@@ -7,12 +7,17 @@ import io
 import random
 import re
 import struct
+import unittest
 import zlib
+from dataclasses import replace
 
 from zaklimot.format import Picture
 from zaklimot_tools.images.holding import held
 from zaklimot_tools.images.png import Animation, ImageSize, Shape, block_lines
-from zaklimot_tools.images.reading import image_of, size_of
+from zaklimot_tools.images.reading import Image, image_of, size_of
+from zaklimot_tools.picture.asked import Fit
+from zaklimot_tools.picture.fitting import fitted
+from zaklimot_tools.picture.mode import MODES
 from zaklimot_tools.picture.words import main
 
 from .test_images import png
@@ -245,3 +250,47 @@ class Colours(Folder):
         for words in ("--dither ordered", "--nearest"):
             given = ("--mode", "0D", *words.split())
             self.assertEqual(made_of(ppm_of(MANY), *given), made_of(png_of(MANY), *given), words)
+
+
+class Fitting(unittest.TestCase):
+    """An image that keeps its shape between bars."""
+
+    def told(self, width: int, height: int) -> tuple[str, list[str]]:
+        """What is told of a red image on a screen of 8 by 6 dots, and its rows, in which a bar's
+        dots are points."""
+        image = Image(width, height, (b"\xff\0\0" * width,) * height, 255)
+        mode = replace(MODES["13"], width=8, height=6)
+        bars = b"\0\xff\x80"
+        made = fitted(image, mode, Fit.FIT, bars, "i")
+        dots = ([row[at : at + 3] for at in range(0, len(row), 3)] for row in made.image.rows)
+        return made.told, ["".join(".#"[dot != bars] for dot in row) for row in dots]
+
+    def test_bars_stand_on_both_sides(self) -> None:
+        end = "with bars of 00FF80 to 8x6"
+        hold(
+            self,
+            self.told,
+            (
+                (2, 6, (f"2x6 stretched to 2x6, {end}", ["...##..."] * 6)),
+                (3, 6, (f"3x6 stretched to 3x6, {end}", ["..###..."] * 6)),
+                (
+                    8,
+                    3,
+                    (
+                        f"8x3 stretched to 8x3, {end}",
+                        ["........", *["########"] * 3, *["........"] * 2],
+                    ),
+                ),
+                (4, 3, ("4x3 stretched to 8x6", ["########"] * 6)),
+                # A dot at least is there.
+                (1, 100, (f"1x100 stretched to 1x6, {end}", ["...#...."] * 6)),
+                (
+                    100,
+                    1,
+                    (
+                        f"100x1 stretched to 8x1, {end}",
+                        [*["........"] * 2, "########", *["........"] * 3],
+                    ),
+                ),
+            ),
+        )

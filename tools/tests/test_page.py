@@ -436,6 +436,11 @@ class Modules(unittest.TestCase):
                     module_of([*self.right, "zak_more"]),
                     "it exports what is not in zaklimot.h: zak_more",
                 ),
+                # So is what is no function.
+                (
+                    module_of([*self.right, "zak_more"]).replace(b"zak_more\0", b"zak_more\3"),
+                    "it exports what is not in zaklimot.h: zak_more",
+                ),
                 (module_of(self.right)[:-1], "it is cut off"),
                 (b"\x7fELF", "it is no WebAssembly module"),
             ),

@@ -13,6 +13,7 @@ from zaklimot_tools.core.version import version
 from zaklimot_tools.dev.library.making import AARCH64, X86_64, Target
 from zaklimot_tools.dev.release import command as release, stepping
 from zaklimot_tools.dev.release.command import Commit, Entry, File
+from zaklimot_tools.steps.library import NAMED
 
 from .tools import Folder, call, hold_undone, main_of, patched, refused
 
@@ -200,6 +201,7 @@ class Steps(Folder):
             if words[2] == "make":
                 given = dict(zip(map(str, words[4::2]), map(str, words[5::2])))
                 self.assertEqual((given["--count"], given["--seed"]), (str(count), "18977485"))
+                self.assertEqual(environment, {NAMED: str(library)})
                 folder = Path(str(words[3]))
                 folder.mkdir()
                 (folder / "out.json.gz").write_bytes(b"elements")
