@@ -9,7 +9,7 @@ from typing import NamedTuple
 from zaklimot.format import Block, Step
 from zaklimot_tools.picture.mode import MODES
 from zaklimot_tools.picture.screen import Areas, CellWindow, put_steps, scroll
-from zaklimot_tools.picture.steps import Item
+from zaklimot_tools.picture.steps import Item, runs
 
 from .tools import hold
 
@@ -139,5 +139,18 @@ class Bytes(unittest.TestCase):
                 (5, 6, 7, ["putw 605", "put 7"]),
                 (2, 3, 4, 5, ["putw 302", "putw 504"]),
                 (1, 3, 4, 6, ["put 1", "putw 403", "put 6"]),
+            ),
+        )
+
+    def test_numbers_that_follow_one_another(self) -> None:
+        # A smaller number follows none.
+        hold(
+            self,
+            lambda numbers, gap: [(one.start, one.stop) for one in runs(numbers, gap)],
+            (
+                ([], 0, []),
+                ([4, 5, 0x14, 7, 0x38], 0, [(4, 6), (0x14, 0x15), (7, 8), (0x38, 0x39)]),
+                ([1, 3, 6, 7], 1, [(1, 4), (6, 8)]),
+                ([3, 2, 1], 4, [(3, 4), (2, 3), (1, 2)]),
             ),
         )

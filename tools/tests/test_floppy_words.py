@@ -35,6 +35,7 @@ from .tools import (
     hold,
     hold_undone,
     main_of,
+    patched,
     png_rows,
     refused,
     run_tool,
@@ -421,6 +422,44 @@ class Texts(Folder):
             found = rows.read_file(path)
             self.assertEqual((found.answers(), found.missing()), (b"\xcc" * 30, []))
 
+    def test_what_is_damaged_in_each_of_the_pictures_of_a_page(self) -> None:
+        # A row is good where one of them has it, and what the last one lacks is told once.
+        path = self.write("page", b"\0")
+        good, damaged = row(0, bytes(22)), "babab babab badab"
+        for seen, places in (
+            ((f"{good}\n{damaged}", damaged), [f"{path}:1"]),
+            ((f"{damaged}\n{damaged}", good), []),
+            ((good, damaged), []),
+        ):
+            faked = {"_pictures": lambda *_: iter(seen), "_seen": lambda text, _: text}
+            with patched(rows, faked):
+                found = rows.read_file(path)
+            self.assertEqual((list(found.rows), found.damaged), ([0], places))
+
+    def test_a_last_row_is_taken_once(self) -> None:
+        # How many answers there are is told by the page of checks, which is not there.
+        pages = rows.Pages()
+        pages.add(f"{row(0, bytes(22))}\n{row(1, bytes(range(8)))}\n", "it")
+        self.assertEqual(pages.answers(), bytes(22) + bytes(range(8)))
+
+    def test_answers_that_do_not_fit_the_steps(self) -> None:
+        table = Table(table_for({"": script_of(b"in 3CC\ninw 3CE\n", "it")}), "it")
+
+        def told(answers: bytes, is_whole: bool) -> object:
+            return b"".join(report_lines(Run(table, answers, is_whole), "it"))
+
+        self.assertEqual(told(b"\1\2\3", True), b"1 01\n2 0302\n")
+        self.assertEqual(told(b"\1\2", False), b"1 01\n")
+        self.assertEqual(refused(told, b"\1\2", True), "it: it has no answer for step 2")
+        wrong = "it: it has 4 bytes of answers, and its steps have 3"
+        self.assertEqual(refused(told, b"\1\2\3\4", True), wrong)
+        # The end of a record has the sum, and how many there are.
+        record = machine(b"in 3CC\n").record
+        for count, total in ((2, b"\xcc\0"), (1, b"\xcd\0"), (1, b"\xcc\1")):
+            data = b"".join([*record[:-1], line("E", count, total)])
+            ended_otherwise = "it: the end of the record tells of other answers"
+            self.assertEqual(refused(read_record, data, "it"), ended_otherwise)
+
     def test_rows_of_a_length_that_no_page_has(self) -> None:
         for number, length, is_one in ((0, 22, True), (0, 24, False), (0x8001, 24, False)):
             pages = rows.Pages()
@@ -433,7 +472,8 @@ class Texts(Folder):
                 self.assertEqual(refused(pages.add, text, "it"), told)
         # Words that are fewer than those of a row are passed over, and three that don't fit aren't.
         pages = rows.Pages()
-        pages.add("babab babab\nbabab babab badab\nno words at all\n", "it")
+        text = "babab babab\nbabab babab badab\nno words at all\nbabab, babab babab\n"
+        pages.add(text, "it")
         self.assertEqual((pages.count, pages.damaged), (0, ["it:2"]))
 
 

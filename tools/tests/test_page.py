@@ -398,6 +398,7 @@ class Retargeting(unittest.TestCase):
                     (TRIPLES[0], "aarch64"),
                     ("define noundef i32 @zak", "define i32 @zak"),
                     ("%card,", "%card zz,"),
+                    ("%0, i64", "%0 zz, i64"),
                 )
             ),
         )
