@@ -56,6 +56,17 @@ class Dots(Folder):
             ),
         )
 
+    def test_dots_of_a_ppm_that_look_like_blanks(self) -> None:
+        self.assertEqual(image_of(ppm(1, 1, b"\n \t"), "i").rows, (b"\n \t",))
+        self.assertEqual(image_of(ppm(1, 1, b"\x3f" * 3), "i").rows, (b"\x3f" * 3,))
+        told = refused(image_of, ppm(1, 1, b"\x3f\x3f\x40"), "i")
+        self.assertEqual(told, "i: the PPM of 1x1 dots is damaged")
+
+    def test_rows_that_begin_alike(self) -> None:
+        image = Image(2, 2, (RED + BLACK, RED + WHITE), 63)
+        wanted = (RED * 2 + BLACK * 2, RED * 2 + WHITE * 2)
+        self.assertEqual(image.repeated(2, 1).rows, wanted)
+
     def test_as_many_dots_as_an_enlarged_picture_has(self) -> None:
         self.assertEqual(Shape(2).size(5000, 5000), (10_000, 10_000))
         told = refused(Shape(2).size, 5000, 5001)
@@ -155,7 +166,7 @@ class Held(Folder):
 class Moving(Folder):
     def test_how_long_a_frame_lasts(self) -> None:
         # Below a second in parts of 50,000, from there on in hundredths, 655.35 seconds at most.
-        seconds = (0.99998, 1, 1.004, 655.35, 700)
+        seconds = (0.29, 0.99998, 1, 1.004, 655.35, 700)
         moving = Animation(Shape())
         for each in seconds:
             moving.add(Picture.of_dots(1, 1, RED), each, "it")
@@ -163,7 +174,14 @@ class Moving(Folder):
             moving.write(stream)
             chunks = png_chunks(stream.getvalue())
         times = [struct.unpack_from(">HH", data, 20) for kind, data in chunks if kind == b"fcTL"]
-        wanted = [(49_999, 50_000), (100, 100), (100, 100), (65_535, 100), (65_535, 100)]
+        wanted = [
+            (14_500, 50_000),
+            (49_999, 50_000),
+            (100, 100),
+            (100, 100),
+            (65_535, 100),
+            (65_535, 100),
+        ]
         self.assertEqual(times, wanted)
         self.assertEqual(moving.seconds, sum(seconds))
 
