@@ -251,7 +251,7 @@ class Fuzzing(Folder):
             status, lines, said = self.run_command()
             unnamed = self.run_command("")
         self.assertEqual((status, lines[-2], said), (0, "0 with something wrong", ""))
-        hold_undone(self, (unnamed[0], "", unnamed[2]), "^vga-fuzz: : it is no program; ")
+        hold_undone(self, (unnamed[0], "", unnamed[2]), "^vga-fuzz: the name of a file is empty\n$")
         none = self.run_command(self.write("none", ""))
         hold_undone(self, (none[0], "", none[2]), "none: it is no program; ")
 

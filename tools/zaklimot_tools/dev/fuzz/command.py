@@ -115,9 +115,7 @@ def _fuzz(words: argparse.Namespace, path: str, folder: Path) -> int:
 
 def feed_program(words: argparse.Namespace, _: Progress) -> int:
     """Feeds a program with inputs at random; whether one shows something wrong."""
-    path = words.program
-    if path is None:
-        path = found_program(instead="PROGRAM names one")
+    path = words.program or found_program(instead="PROGRAM names one")
     if not os.path.isfile(path) or not os.access(path, os.X_OK):
         raise Trouble("it is no program; (cd crates/vga && rt run -- --help) builds it", path)
     if words.keep is not None:
