@@ -9,10 +9,12 @@ import shlex
 import sys
 import unittest
 from functools import partial
+from itertools import product
 from pathlib import Path
 from unittest import mock
 
 from zaklimot_tools.core.processes import Streamed
+from zaklimot_tools.report.suite import AGREES, DIFFERS, FAILED, SKIPPED, Result, _worst
 from zaklimot_tools.script import launching, program
 from zaklimot_tools.script.program import (
     BuiltProgram,
@@ -128,6 +130,12 @@ class Harnesses(Folder):
         agreeing = {"name": "a/c", "rule": "Rule.", "answer": "agrees"}
         counts = {"steps": 1, "skipped": 0, "answers": 1, "differing": 0}
         self.assertEqual(told["rules"][1]["cases"], [{**agreeing, **counts}])
+
+    def test_which_answers_are_worse_than_others(self) -> None:
+        order = (AGREES, SKIPPED, DIFFERS, FAILED)
+        for one, other in product(order, repeat=2):
+            results = [Result(mock.Mock(), "A rule.", answer) for answer in (one, other)]
+            self.assertEqual(_worst(results), max(one, other, key=order.index), (one, other))
 
     def test_an_expected_report_that_is_damaged(self) -> None:
         self.write("two.txt", "1 FF\n3 ok\n")

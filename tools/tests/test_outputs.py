@@ -5,6 +5,10 @@ from __future__ import annotations
 
 import os
 import shlex
+import stat
+import sys
+import unittest
+from concurrent.futures import ThreadPoolExecutor
 from typing import Optional
 
 from .tools import BLACK, EXAMPLES, PROGRAM, RED, WHITE, Folder, ppm, run_tool, want_program
@@ -73,6 +77,23 @@ class Outputs(Folder):
                 done = self.done(words.format("-", vga=PROGRAM))
                 self.assertEqual(done, (status, written, told.format(NOWHERE)))
                 self.assertFalse((self.folder / "-").exists())
+
+    @unittest.skipIf(sys.platform == "win32", "there are no named pipes")
+    def test_a_named_pipe_stays_one_and_its_reader_gets_all(self) -> None:
+        pipe = self.folder / "pipe"
+        os.mkfifo(pipe)
+        for words, status, _, _ in OUTPUTS[:6]:
+            # Both ends are open before, so that no end waits for one that is never opened.
+            stream = open(os.open(pipe, os.O_RDONLY | os.O_NONBLOCK), "rb")
+            held = os.open(pipe, os.O_WRONLY)
+            os.set_blocking(stream.fileno(), True)
+            with self.subTest(words), stream, ThreadPoolExecutor(1) as pool:
+                reader = pool.submit(stream.read)
+                done = self.done(words.format("pipe"))
+                os.close(held)
+                self.assertTrue(stat.S_ISFIFO(pipe.stat().st_mode))
+                wanted = self.done(words.format("-"))
+                self.assertEqual((done[0], reader.result(60)), (status, wanted[1]))
 
     def test_a_picture_that_is_not_written_is_told(self) -> None:
         for words, status, reason in UNWRITTEN:
