@@ -84,12 +84,13 @@ class PagesOfADiskThatIsProtected(Folder):
 
     def page_after(self, do: Monitor, key: str, page: list[str]) -> list[str]:
         """The page that a key brings after another. A mode set clears it from its first row on, and
-        its last row comes last."""
+        its last row comes last. The machine goes on while it is read, so it is read twice."""
         seen: list[str] = []
 
         def has_come() -> bool:
             seen[:] = self.text(do)
-            return seen != page and seen[0] != "" and seen[-1] == KEYS
+            is_whole = seen != page and seen[0] != "" and seen[-1] == KEYS
+            return is_whole and seen == self.text(do)
 
         self.press(do, key, has_come)
         return seen
