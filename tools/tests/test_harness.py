@@ -131,6 +131,12 @@ class Harnesses(Folder):
         counts = {"steps": 1, "skipped": 0, "answers": 1, "differing": 0}
         self.assertEqual(told["rules"][1]["cases"], [{**agreeing, **counts}])
 
+    def test_a_command_has_nothing_on_standard_input(self) -> None:
+        # What comes there is for the tool, or for the loop of a shell around it.
+        command = shlex.join(["sh", "-c", f'cat >> got; {ADAPTER} "$0"']) + " {script}"
+        done = self.done("suite", command, "--list", "list.txt", given=b"one\ntwo\n")
+        self.assertEqual((done[0], (self.folder / "got").read_bytes()), (0, b""))
+
     def test_which_answers_are_worse_than_others(self) -> None:
         order = (AGREES, SKIPPED, DIFFERS, FAILED)
         for one, other in product(order, repeat=2):

@@ -632,8 +632,13 @@ class Opened(Fake):
         self.assertEqual(
             self.debugged(self.script, "--until", "2", made=made), (0, f"{told}#step=2\n", "")
         )
-        pages = unquote(page_data(self.made.read_text("utf-8"))["pages"])
-        self.assertEqual((self.folder / pages).resolve(), DOCS)
+        # The documentation is found from the page's own folder, wherever the command runs.
+        (self.folder / "b" / "c").mkdir(parents=True)
+        for name in ("debug.html", "b/c/debug.html"):
+            self.assertEqual(self.debugged("script.vga", made=name)[0], 0)
+            made_there = self.folder / name
+            pages = unquote(page_data(made_there.read_text("utf-8"))["pages"])
+            self.assertEqual((made_there.parent / pages).resolve(), DOCS)
 
     def test_links_of_names_that_mean_something_in_an_address(self) -> None:
         for name, quoted in (
