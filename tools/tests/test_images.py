@@ -132,6 +132,30 @@ class Filters(unittest.TestCase):
             ),
         )
 
+    def test_neighbours_are_as_far_as_a_dot_has_bytes(self) -> None:
+        # Each filter of a row behind a plain one, of one byte a dot and more, and of parts of one.
+        for depth, colour, samples in ((8, 0, 1), (8, 2, 3), (16, 0, 1), (16, 2, 3), (16, 4, 2)):
+            size = samples * depth // 8
+            rows = [bytes((7 * at + 11 * row) % 251 for at in range(4 * size)) for row in (1, 5)]
+            plain = image_of(png(4, 2, b"".join(b"\0" + row for row in rows), depth, colour), "it")
+            for kind in range(5):
+                filtered = self.filtered(kind, rows[1], rows[0], size)
+                lines = b"\0" + rows[0] + bytes([kind]) + filtered
+                found = image_of(png(4, 2, lines, depth, colour), "it")
+                self.assertEqual(found.rows, plain.rows, (depth, colour, kind))
+
+    @staticmethod
+    def filtered(kind: int, row: bytes, above: bytes, size: int) -> bytes:
+        """A row as a writer filters it, by the rules of PNG."""
+        made = bytearray()
+        for at, value in enumerate(row):
+            left, corner = (line[at - size] if at >= size else 0 for line in (row, above))
+            up = above[at]
+            # Of those as near the first.
+            nearest = min((left, up, corner), key=lambda one: abs(left + up - corner - one))
+            made.append(value - (0, left, up, (left + up) // 2, nearest)[kind] & 255)
+        return bytes(made)
+
 
 class ComparePicture(Folder):
     def compared(self, image: bytes, *words: str, picture: bytes = PICTURE) -> tuple[int, str]:

@@ -21,7 +21,7 @@ from zaklimot_tools.steps.checking import (
 )
 from zaklimot_tools.steps.comparing import differences
 from zaklimot_tools.steps.kinds import KINDS
-from zaklimot_tools.steps.parts import BEAM, FINAL, INITIAL, Element
+from zaklimot_tools.steps.parts import BDA, BEAM, FINAL, INITIAL, Element
 from zaklimot_tools.steps.readback import readback_lines
 from zaklimot_tools.steps.reading import fault_of
 from zaklimot_tools.steps.rules import RULES
@@ -266,6 +266,15 @@ class Differences(Folder):
                 ),
             ),
         )
+
+    def test_a_field_that_is_left_out_differs(self) -> None:
+        structs = {"beam": BEAM, "bda": BDA}
+        for part, fields in structs.items():
+            whole: dict[str, Any] = {name: number for number, name in enumerate(fields, 1)}
+            for name in fields:
+                given = {one: value for one, value in whole.items() if one != name}
+                found = list(differences({**GOOD, FINAL: {part: whole}}, {FINAL: {part: given}}))
+                self.assertEqual(found, [f"{part} {name}: none, not {whole[name]}"])
 
     def test_parts_of_a_state(self) -> None:
         beam = dict.fromkeys(BEAM, 4)
