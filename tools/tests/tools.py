@@ -48,6 +48,8 @@ MOST_SECONDS = 200
 SIGNALS = ((signal.SIGTERM, 143), (signal.SIGHUP, 129), (signal.SIGINT, 130))
 # A child that is to be there is waited for this many seconds.
 WAITING = 60
+# So many seconds have processes to end that a tool has ended.
+ENDING = 10
 # The program that is tested, as the runner of the tests names it to their processes.
 PROGRAM = Path(os.environ.get(TESTED) or BUILT_PROGRAM)
 # Why a test is skipped.
@@ -71,10 +73,13 @@ def main_of(name: str) -> Callable[[Sequence[str]], int]:
 
 
 def _become(
-    work: Callable[[], int], streams: Sequence[BinaryIO], prepare: Callable[[], object]
+    work: Callable[[], int],
+    streams: Sequence[BinaryIO],
+    temporary: str,
+    prepare: Callable[[], object],
 ) -> None:
     """Goes on as a tool does that has just been started, with these three files as its standard
-    streams."""
+    streams, and this folder for temporary files."""
     for number, stream in enumerate(streams):
         os.dup2(stream.fileno(), number)
     sys.stdin = open(0)
@@ -82,6 +87,7 @@ def _become(
     sys.stderr = open(2, "w", errors="backslashreplace")
     warnings.simplefilter("ignore")
     tempfile.tempdir = None
+    os.environ["TMPDIR"] = temporary
     _heed_signals()
     prepare()
     sys.exit(work())
@@ -93,6 +99,9 @@ def run_tool(
     """Exit status, output and standard error of a tool, which reads these bytes; its process is
     prepared before.
 
+    A tool that is given nothing reads nothing of its standard input, which may be that of a loop
+    around it. None leaves temporary files, or processes that go on running.
+
     The process has the tool's modules already: to start Python for each run would take most of the
     tests' time.
     """
@@ -101,22 +110,56 @@ def run_tool(
         tempfile.TemporaryFile() as read,
         tempfile.TemporaryFile() as written,
         tempfile.TemporaryFile() as said,
+        tempfile.TemporaryDirectory() as temporary,
     ):
-        read.write(given)
+        is_asked = given or not {"-", b"-"}.isdisjoint(words)
+        read.write(given if is_asked else b"not to be read\n")
         read.seek(0)
-        process = FORKING.Process(target=_become, args=(work, (read, written, said), prepare))
-        process.start()
-        try:
-            process.join(MOST_SECONDS)
-        finally:
-            # Where it takes too long, or the tests are ended, it ends what it has started.
-            if process.is_alive():
-                process.terminate()
-                process.join()
+        others = _children()
+        status = _forked(_become, work, (read, written, said), temporary, prepare)
+        assert is_asked or not os.lseek(read.fileno(), 0, os.SEEK_CUR), "it reads standard input"
+        assert not os.listdir(temporary), f"temporary files are left: {os.listdir(temporary)}"
+        assert not _left_running(others), "processes are left"
         written.seek(0)
         said.seek(0)
-        assert process.exitcode is not None
-        return process.exitcode, written.read(), said.read().decode()
+        return status, written.read(), said.read().decode()
+
+
+def _forked(work: Callable[..., None], *given: object) -> int:
+    """The exit status of work in a process of its own."""
+    process = FORKING.Process(target=work, args=given)
+    process.start()
+    try:
+        process.join(MOST_SECONDS)
+    finally:
+        # Where it takes too long, or the tests are ended, it ends what it has started.
+        if process.is_alive():
+            process.terminate()
+            process.join()
+    assert process.exitcode is not None
+    return process.exitcode
+
+
+def _children() -> set[int]:
+    """The numbers of the processes below this one, whose own parents may have ended."""
+    found: set[int] = set()
+    for listed in Path("/proc/self/task").glob("*/children"):
+        with contextlib.suppress(OSError):
+            found.update(map(int, listed.read_text("ascii").split()))
+    return found
+
+
+def _left_running(others: set[int]) -> set[int]:
+    """The processes that run beside others, once they have had the time to end. While other tools
+    run beside, whose they are isn't known, and none is told."""
+    end = time.monotonic() + ENDING
+    left = _children() - others
+    while left and not multiprocessing.active_children():
+        left = {number for number in left if is_running(number)}
+        if time.monotonic() > end:
+            return left
+        time.sleep(0.01)
+    return set()
 
 
 def call(main: Callable[[list[str]], int], *words: str | Path) -> tuple[int, str, str]:
