@@ -237,6 +237,8 @@ def run(name: str, work: Callable[[], int], progress: Optional[Progress] = None)
     try:
         with _ending_at_signals(), files_of_run():
             status = work()
+            if progress is not None:
+                progress.clear()
             sys.stdout.flush()
         return status
     except BrokenPipeError:

@@ -120,7 +120,9 @@ def pictures(words: argparse.Namespace, progress: Progress) -> int:
     count = 0
     with _steps(words.report, progress) as steps:
         for count, (number, picture) in enumerate(wanted_pictures(steps, words.step, name), 1):
+            progress.clear()
             output.take(number, picture)
+    progress.clear()
     if not count:
         raise Trouble("no step has a picture", name)
     output.end()

@@ -190,9 +190,9 @@ def _results(words: argparse.Namespace, cases: list[Case], progress: Progress) -
             if progress.is_due():
                 counts = _counts(results)
                 wrong = counts[DIFFERS] + counts[FAILED]
-                progress.tell(
-                    f"{len(results)} of {len(cases)} cases, {wrong} don't agree: {result.case.name}"
-                )
+                do_not = "doesn't" if wrong == 1 else "don't"
+                cases_run = f"{len(results)} of {counted(len(cases), 'case')}"
+                progress.tell(f"{cases_run}, {wrong} {do_not} agree: {result.case.name}")
     return results
 
 

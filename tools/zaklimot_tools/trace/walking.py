@@ -136,7 +136,7 @@ class Walk:
         for item in rest:
             part.add(item)
             if self._progress.is_due():
-                self._progress.tell(f"a script is made: {part.steps:,} steps")
+                self._progress.tell(f"a script is made: {counted(part.steps, 'step', ',')}")
             if part.is_full:
                 part.ask_state()
                 return True

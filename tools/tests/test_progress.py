@@ -1,0 +1,141 @@
+"""How far long work has come, as the tools tell it on a terminal: what is told first and last, how
+often, and that nothing of it stays on the terminal."""
+
+from __future__ import annotations
+
+import os
+import shlex
+import shutil
+import sys
+from typing import Callable, NamedTuple
+
+from zaklimot_tools.core import progress
+
+from .answers import given_files
+from .tools import RED, Folder, ppm, report, run_tool, want_program
+
+# An adapter that takes an element, and answers nothing of it.
+ADAPTER = "import sys\nfor line in sys.stdin:\n    print('{}', flush=True)\n"
+
+
+class Told(NamedTuple):
+    """What is told while a command works: how many times, first and last."""
+
+    times: int
+    first: str
+    last: str
+
+
+NOTHING = Told(0, "", "")
+MADE = "a script is made: {:,} steps".format
+ONE = "a script is made: 1 step"
+CASES = "--only examples/first-path --only examples/until"
+OF_CASES = Told(
+    3,
+    "1 of 3 cases, 1 doesn't agree: examples/first-path",
+    "3 of 3 cases, 2 don't agree: examples/until-dumps",
+)
+OF_FILES = Told(2, "1 of 2 files", "2 of 2 files")
+# Commands over the files of the recorded answers, and a few more.
+TELLING = {
+    "report run s.vga": Told(22, "s.vga: step 1 of 20", "s.vga: step 20 of 20"),
+    "report run s.vga --until 3 --quiet": Told(7, "s.vga: step 1 of 20", "s.vga: step 7 of 20"),
+    "report run d": Told(3, "1 of 3 scripts: d/a.vga", "3 of 3 scripts: d/sub/c.vga"),
+    # What is written on the terminal itself needs no line that tells of it.
+    "report text long.txt": NOTHING,
+    "report pictures s.txt p": Told(2, "s.txt: 50 %", "s.txt: 99 %"),
+    "report pictures s.txt --apng o": Told(2, "s.txt: 50 %", "s.txt: 99 %"),
+    "report pictures end.txt p": Told(5, "end.txt: 18 %", "end.txt: 100 %"),
+    "report compare-picture s.txt 17 nine.ppm": Told(1, "s.txt: 50 %", "s.txt: 50 %"),
+    "report compare long.txt long.txt": Told(4, "long.txt: 18 %", "long.txt: 80 %"),
+    f"report suite 'false # {{name}}' {CASES}": OF_CASES,
+    f"report suite 'false # {{name}}' --json {CASES}": OF_CASES,
+    "steps check 'python3 adapter.py' dac.json off.json": Told(
+        40, "dac.json: 1 element, 1 differ", "off.json: 20 elements, 20 differ"
+    ),
+    "steps confirm off.json dac.json --jobs 1": Told(
+        40, "off.json: 1 element", "dac.json: 20 elements"
+    ),
+    "steps confirm dac.json off.json --jobs 2": OF_FILES,
+    "steps coverage dac.json off.json --jobs 2 --least 0": OF_FILES,
+    "steps make made --only dac-reads": Told(
+        10_000, "dac-reads: 1 element", "dac-reads: 10000 elements"
+    ),
+    "picture script plain.ppm o.vga --mode 13": NOTHING,
+    "picture script plain.ppm o.vga --mode 3 --scale": Told(
+        2000, "1 of 2,000 cells", "2,000 of 2,000 cells"
+    ),
+    "trace text t.trace": Told(1301, ONE, MADE(1301)),
+    "trace pictures t.trace p": NOTHING,
+    "trace palette t.trace o.gpl": Told(1301, ONE, MADE(1301)),
+    "trace screen t.trace o.png": Told(19, ONE, "report: 18 lines"),
+    "trace find t.trace A": Told(547, ONE, MADE(547)),
+    "trace find t.trace nothing": Told(547, ONE, MADE(547)),
+    "trace compare t.trace other.trace": Told(48, ONE, "report: 13 lines"),
+}
+
+
+def _begin_on_terminal() -> None:
+    """Has the process tell all there is to tell, as on a terminal."""
+    setattr(progress, "DELAY", 0)
+    setattr(progress, "PAUSE", 0)
+    os.environ["COLUMNS"] = "100"
+    for stream in (sys.stdout, sys.stderr):
+        setattr(stream, "isatty", lambda: True)
+
+
+def _shown(written: str) -> str:
+    """What a terminal shows of what is written on it: behind a carriage return, text replaces
+    text."""
+    rows = []
+    for line in written.split("\n"):
+        row = ""
+        for part in line.split("\r"):
+            row = part + row[len(part) :]
+        rows.append(row.rstrip())
+    return "\n".join(rows)
+
+
+class Terminal(Folder):
+    @classmethod
+    def setUpClass(cls) -> None:
+        want_program()
+
+    def setUp(self) -> None:
+        super().setUp()
+        for name, data in given_files().items():
+            self.write(name, data)
+        self.write("long.txt", report(*["ok"] * 20_000))
+        self.write("end.txt", report(*["ok"] * 20_000, ppm(2, 1, RED + RED)))
+        self.write("adapter.py", ADAPTER)
+
+    def done(self, words: str, prepare: Callable[[], None]) -> str:
+        """What a command writes in the folder, on either stream; what it makes is taken away
+        then."""
+        tool, *rest = shlex.split(words)
+        before = self.names()
+
+        def begin() -> None:
+            os.chdir(self.folder)
+            # One place shows both streams in their order, as a terminal does.
+            os.dup2(2, 1)
+            prepare()
+
+        _, output, said = run_tool(f"vga-{tool}", *rest, prepare=begin)
+        for name in set(self.names()) - set(before):
+            path = self.folder / name
+            if path.is_dir():
+                shutil.rmtree(path)
+            else:
+                path.unlink()
+        return output.decode() + said
+
+    def test_what_is_told_and_that_nothing_of_it_stays(self) -> None:
+        for words, wanted in TELLING.items():
+            with self.subTest(words):
+                written = self.done(words, _begin_on_terminal)
+                # A line that is taken away is blanks.
+                parts = [part.rstrip(" ") for part in written.split("\r")]
+                told = [part for part in parts if part and "\n" not in part] or [""]
+                self.assertEqual(Told(len(told) if told[0] else 0, told[0], told[-1]), wanted)
+                self.assertEqual(_shown(written), _shown(self.done(words, lambda: None)))
