@@ -100,7 +100,8 @@ def run_tool(
     prepared before.
 
     A tool that is given nothing reads nothing of its standard input, which may be that of a loop
-    around it. None leaves temporary files, or processes that go on running.
+    around it. None leaves temporary files, or processes that go on running. None ends with status 2
+    and without a reason, or with Python's own words.
 
     The process has the tool's modules already: to start Python for each run would take most of the
     tests' time.
@@ -122,7 +123,10 @@ def run_tool(
         assert not _left_running(others), "processes are left"
         written.seek(0)
         said.seek(0)
-        return status, written.read(), said.read().decode()
+        output, told = written.read(), said.read().decode()
+        assert status != 2 or output or told, "no reason is told"
+        assert "Traceback" not in told, told
+        return status, output, told
 
 
 def _forked(work: Callable[..., None], *given: object) -> int:
