@@ -12,7 +12,7 @@ from typing import Callable, NamedTuple
 from zaklimot_tools.core import progress
 
 from .answers import given_files
-from .tools import RED, Folder, ppm, report, run_tool, want_program
+from .tools import PROGRAM, RED, Folder, ppm, report, run_tool, want_program
 
 # An adapter that takes an element, and answers nothing of it.
 ADAPTER = "import sys\nfor line in sys.stdin:\n    print('{}', flush=True)\n"
@@ -130,12 +130,23 @@ class Terminal(Folder):
                 path.unlink()
         return output.decode() + said
 
+    def told(self, words: str) -> tuple[list[str], str]:
+        """What a command tells, one after the other, and what stays on the terminal."""
+        written = self.done(words, _begin_on_terminal)
+        # A line that is taken away is blanks.
+        parts = [part.rstrip(" ") for part in written.split("\r")]
+        return [part for part in parts if part and "\n" not in part], _shown(written)
+
     def test_what_is_told_and_that_nothing_of_it_stays(self) -> None:
         for words, wanted in TELLING.items():
             with self.subTest(words):
-                written = self.done(words, _begin_on_terminal)
-                # A line that is taken away is blanks.
-                parts = [part.rstrip(" ") for part in written.split("\r")]
-                told = [part for part in parts if part and "\n" not in part] or [""]
-                self.assertEqual(Told(len(told) if told[0] else 0, told[0], told[-1]), wanted)
-                self.assertEqual(_shown(written), _shown(self.done(words, lambda: None)))
+                told, shown = self.told(words)
+                found = Told(len(told), told[0], told[-1]) if told else NOTHING
+                self.assertEqual(found, wanted)
+                self.assertEqual(shown, _shown(self.done(words, lambda: None)))
+
+    def test_a_program_that_does_not_answer_yet_is_told(self) -> None:
+        self.program("slow", f'#!/bin/sh\nsleep 0.5\nexec {PROGRAM} "$@"\n')
+        told, shown = self.told("report run s.vga --quiet --vga ./slow")
+        self.assertIn("s.vga: no answer yet after 0 seconds", told)
+        self.assertEqual(shown, _shown(self.done("report run s.vga --quiet", lambda: None)))
