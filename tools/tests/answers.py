@@ -29,6 +29,7 @@ from typing import Callable, Iterable, Iterator, Mapping, Union
 from zaklimot_tools.script.program import found_program
 from zaklimot_tools.script.words import FONTS
 
+from .answered import element_files, made_files, trace_files
 from .stepping import compile_library
 from .tools import EXAMPLES, TOP, ended, ppm, run_tool
 
@@ -149,19 +150,21 @@ def given_files() -> dict[str, bytes]:
     with tempfile.TemporaryDirectory() as made:
         folder = Path(made)
         _lay(folder, {name: text.encode() for name, text in TEXTS.items()})
+        _lay(folder, dict(trace_files(TRACE.encode())))
         run_tool("vga-trace", "convert", folder / "t.trace", folder / "t.vga", "--text")
         for name in ("s", "good", "repeated", "t"):
             script = f"{name}.bin"
             ended(program, "asm", f"{name}.vga", script, cwd=folder)
             words = (program, "run", script, "--fonts", FONTS)
             (folder / f"{name}.txt").write_bytes(ended(*words, cwd=folder, text=False)[1])
-        files = _files(folder)
+        elements = gzip.decompress((EXAMPLES / "steps" / "dac-reads.json.gz").read_bytes())
+        _lay(folder, {"dac.json": elements, **dict(element_files(elements))})
+        given = _files(folder)
+        files = {**given, **dict(made_files(folder, program, FONTS))}
     report = files["good.txt"]
     files["other.txt"] = report.replace(b"2 03", b"2 01")
     files["longer.txt"] = report + b"5 ok\n"
     files["cut.txt"] = report[:-5]
-    elements = gzip.decompress((EXAMPLES / "steps" / "dac-reads.json.gz").read_bytes())
-    files["dac.json"] = elements
     files["off.json"] = elements.replace(b'"answer":21', b'"answer":20', 1)
     return {**files, **dict(_images())}
 
