@@ -131,6 +131,9 @@ class Differences(Seen):
             "  other: 720x400, at 2.000",
         ]
         self.assertEqual((status, lines, out.exists()), (1, [ALIKE, *told], False))
+        told = [told[0], "  one: 720x400, at 2.000", "  other: no more"]
+        status, lines = self.compare(longer, STANDING, *words)
+        self.assertEqual((status, lines, out.exists()), (1, [ALIKE, *told], False))
         status, lines = self.compare(MODE, "0 int 13 0 0 0\n", *words, "--scale", "2")
         told = ["  one: 720x400, at 0.000", "  other: 640x400, at 0.000", "differing.png"]
         self.assertEqual((status, lines[4:]), (1, told))

@@ -89,6 +89,11 @@ class Knowledge(unittest.TestCase):
                 ({"crtc": {8: 0x20}}, ["panning"]),
                 ({"crtc": {0x18: 0x80, 7: 0x0F, 9: 0x0F}}, ["line compare"]),
                 ({"crtc": {0x18: 0x80, 7: 0x0F}}, []),
+                # A split behind the last line shows nowhere, nor does an underline below the row.
+                ({"crtc": {0x18: 0x8E, 9: 0x0F}}, ["line compare"]),
+                ({"crtc": {0x18: 0x8F, 9: 0x0F}}, []),
+                ({"crtc": {0x14: 0x0F}}, ["underline"]),
+                ({"crtc": {0x14: 0x10}}, []),
                 ({"crtc": {0x14: 0x0D}}, ["underline"]),
                 ({"attr": {0x10: 8}, "word": 0x8700}, ["blinking"]),
                 ({"attr": {0x10: 8}, "word": 0x0700}, []),
@@ -320,6 +325,13 @@ class RealTime(Folder):
         self.assertEqual((beamed.shortened, beamed.left_out), (1, 2.5))
         dots = sum(step.address for step in steps if step.opcode == ADVANCE)
         self.assertEqual(dots, 28_322_000 // 2)
+
+    def test_a_silence_as_long_as_may_be_is_not_cut(self) -> None:
+        before = [step._replace(time=0) for step in registers(0x67, 0)]
+        for time, cut in ((500_000, 0), (500_001, 1)):
+            beamed = Beamed(0.5)
+            list(beamed.steps([*before, TraceStep(OUT, 0x3C9, 0, time)]))
+            self.assertEqual(beamed.shortened, cut)
 
     def test_what_is_left_out_of_two_silences(self) -> None:
         clocked = self.frames(1, (), 1.2, 701.2, 702.5, 1402.5, 1403.9)[1]
