@@ -176,6 +176,9 @@ LACKING: tuple[tuple[bytes, list[str]], ...] = (
     (lacking_vbe("3", "1"), []),
     (LACKING_CHAINED, [LACKING_SILENT]),
     (LACKING_CHAINED + b"- w p 3C4 0604 2\n- w m A0000 1 1\n", [LACKING_SILENT]),
+    # Of what is lacking twice, the first is told.
+    (LACKING_CHAINED + b"- w p 3C4 0604 2\n- w p 3C4 0E04 2\n", [LACKING_SILENT]),
+    (lacking_vbe("4", "41") + qemu("write 1cf 41 2", "vbe"), [LACKING_ENABLED]),
     (
         BEGIN + b"- w p 3C4 4 1\n- w p 3C5 E 1\n- w p 3C4 0F02 2\n",
         [LACKING_SILENT.replace("3 on", "4 on")],
