@@ -98,9 +98,12 @@ class Kept(Folder):
         self.write("recorded/trace.gz", packed(first))
         self.write("recorded/trace-0002.gz", packed(b"".join(rest)))
         self.write("recorded/notes.txt", "mine")
+        many = ("screen-10.ppm", "screen-9999.ppm", "differing-12.png")
+        for name in (*many, "screen-10000.ppm"):
+            self.write(f"recorded/{name}", "of another screen")
         self.keep()
         with zipfile.ZipFile(self.zip) as archive:
-            self.assertEqual(archive.namelist(), sorted([*NAMES, "trace-0002.gz"]))
+            self.assertEqual(archive.namelist(), sorted([*NAMES, "trace-0002.gz", *many]))
         before = self.judge(self.recorded)
         self.assertEqual(self.judge(self.zip)[1].splitlines()[:-1], before[1].splitlines())
         text = run_tool("vga-trace", "text", self.zip, "--vga", PROGRAM)[1].decode()

@@ -331,6 +331,9 @@ class Files(Seen):
                 glyph = more[32 + 32 * code :][:32]
                 self.assertEqual(glyph[:height], data[32 + height * code :][:height])
             self.assertEqual(more[24], 32)
+        tallest = self.write("trace", "0 int 3 0 0 0\n1 w p 3D4 1F09 2\n")
+        asked = self.bytes_of("font", tallest, "-", "--height", "32")
+        self.assertEqual(self.bytes_of("font", tallest, "-"), asked)
 
     def test_the_head_of_a_font(self) -> None:
         trace = self.write("trace", "0 int 3 0 0 0\n")

@@ -196,11 +196,13 @@ class Walked(Folder):
         self.assertEqual(vars(one.state.dac), vars(other.state.dac))
 
     def test_a_state_is_rebuilt_with_the_data_of_the_bios(self) -> None:
-        # Text of 25 rows on the third page, of 50 rows, in one colour; graphics; no mode at all.
+        # Text of 25 rows on the third page, of 50 rows, in one colour, without a cursor that is seen;
+        # graphics; no mode at all.
         for calls in (
             [(0x0003, 0, 0, 0), (0x0502, 0, 0, 0), (0x0200, 0x0200, 0, 0x0507)],
             [(0x0003, 0, 0, 0), (0x1112, 0, 0, 0), (0x0200, 0, 0, 0x2A10), (0x0100, 0, 0x0307, 0)],
             [(0x0007, 0, 0, 0), (0x1111, 0, 0, 0), (0x0E41, 7, 0, 0)],
+            [(0x0003, 0, 0, 0), (0x0100, 0, 0x2607, 0), (0x0200, 0x0700, 0, 0x0102)],
             [(0x0013, 0, 0, 0), (0x0C2A, 0, 17, 100), (0x0200, 0, 0, 0x0102)],
             [(0x0010, 0, 0, 0), (0x0501, 0, 0, 0), (0x0200, 0x0100, 0, 0x0304)],
             [(0x0013, 0, 0, 0), (0x0083, 0, 0, 0)],
