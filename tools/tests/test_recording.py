@@ -292,6 +292,14 @@ class Recorded(Folder):
             (status, lines[-1].rpartition(": ")[2]), (1, "here no frame has the shape of a picture")
         )
 
+    def test_a_screen_after_one_whose_frames_have_no_picture(self) -> None:
+        frames = [*["ragged"] * PHASES, *[PICTURE] * PHASES, PICTURE]
+        screens = ("--screen", "quiet") * 2
+        status, lines, _ = self.record(*screens, program=self.answering("ok", *frames))
+        self.assertEqual(status, 1)
+        self.assertRegex(lines[-2], "^screen 1 at .*: here no frame has the shape of a picture$")
+        self.assertRegex(lines[-1], "^screen 2 at .*: equal, 3x2, six bits a component$")
+
     def test_keys_and_screens_in_their_order_and_time(self) -> None:
         words = ("--screen", "quiet", "--key", "0.1:c,ctrl-l", "--screen", "0.2", "--key", "ret")
         status, lines, _ = self.record(*words, steps=(1, 2, 1))
