@@ -39,6 +39,9 @@ TEXTS = {
         f"{at}00000 int 0E{ord(one):02X} 7 0 0\n" for at, one in enumerate("Ab\r\nab\r\naB", 1)
     )
     + "2000000 int 601 700 0 184F\n2100000 w m B8000 0761 2\n3000000 w m B8002 0762 2\n",
+    # Text, and two seconds later mode 13.
+    "mixed.trace": "0 int 3 0 0 0\n100000 w m B8000 0741 2\n200000 w m B8002 0741 2\n"
+    "2000000 int 13 0 0 0\n2100000 w m A0000 04030201 4\n2200000 w m A0004 05 1\n",
     "untimed.trace": "- w p 3C2 67 1\n- w m B8000 0741 2\n",
     "partly.trace": "0 w p 3C2 67 1\n- w m B8000 0741 2\n5 w m B8002 0741 2\n- r p 3DA 0 1\n",
     "back.trace": "100000 w p 3C2 67 1\n50000 w p 3C4 0101 2\n20 w p 3D4 5F00 2\n"
@@ -95,6 +98,15 @@ def _log() -> bytes:
     return b"".join([*lines, SCREEN, b"polls 5 of 'vga-trace'\n", lines[-1][:60], b"\n"])
 
 
+def _short_log() -> bytes:
+    """Two rows of polls were folded, and a screen was taken before the last cycle."""
+    first = qemu("write 3c2 67 1", front="7@2.000000:")
+    polls = qemu("read 3da 0 1", front="7@2.000900:")
+    memory = [qemu(f"write b800{at} 4{at} 1", "vga-lowmem", "7@3.000000:") for at in range(3)]
+    folded = (polls, b"polls 3 of 'vga-trace'\n", polls, b"polls 14 of 'vga-trace'\n")
+    return b"".join([first, *folded, *memory[:1], SCREEN, *memory[1:], polls])
+
+
 def _vesa() -> bytes:
     writes = (("write 3c2 67 1", "vga"), ("write 1ce 4 2", "vbe"), ("write 1cf 41 2", "vbe"))
     memory = (("write a0000 1 1", "vga-lowmem"), ("write a0001 1 1", "vga-lowmem"))
@@ -114,6 +126,7 @@ def trace_files(trace: bytes) -> Iterator[tuple[str, bytes]]:
     yield "cut.trace.gz", packed[:-20]
     log = _log()
     yield "typed.log", log
+    yield "crlf.log", _short_log().replace(b"\n", b"\r\n")
     yield "vesa.log", _vesa()
     lines = log.splitlines(True)
     yield "recorded/trace.gz", gzip.compress(b"".join(lines[:600]), mtime=0)

@@ -297,6 +297,13 @@ class Finding(Seen):
             words = ("--most", str(most), "--code-page", "cp866")
             self.assertEqual(self.done("find", trace, "\u0410", *words).splitlines(), wanted)
 
+    def test_places_on_one_screen_are_told_from_the_top_to_the_bottom(self) -> None:
+        places = ("80A0", "8008", "8000")
+        writes = "".join(f"1 w m B{place} 0741 2\n" for place in places)
+        lines = self.done("find", self.write("trace", f"0 int 3 0 0 0\n{writes}"), "A").splitlines()
+        found = [tuple(map(int, line.split()[1:3])) for line in lines[1:]]
+        self.assertEqual(found, [(0, 0), (0, 4), (1, 0)])
+
 
 class Files(Seen):
     def bytes_of(self, name: str, *words: str) -> bytes:

@@ -45,6 +45,10 @@ class Moments(unittest.TestCase):
     def test_what_stands_at_a_second_is_before_it(self) -> None:
         for at, count in ((0.5, 1), (0.999999, 1), (1, 3), (1.000001, 4), (9, 4)):
             self.assertEqual(len(up_to(SECONDS, at=at)), count, at)
+        # Seconds are those after the first cycle, also where this stands at 0.
+        begin = BEGIN + b"500000 w p 3C9 1 1\n1200000 w p 3C9 2 1\n"
+        for at, count in ((0.4, 1), (1, 2), (1.2, 3)):
+            self.assertEqual(len(up_to(begin, at=at)), count, at)
 
     def test_each_second_that_is_told_names_its_moment(self) -> None:
         passed = Passed()
