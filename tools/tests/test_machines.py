@@ -4,6 +4,7 @@ names, and the answers that they expect. And what is told where two elements dif
 from __future__ import annotations
 
 import json
+import os
 import unittest
 from typing import Any
 from xml.etree import ElementTree
@@ -115,6 +116,14 @@ class Machines(Folder):
         answers = [line for line in lines if line.startswith("get A0005 ; = ")]
         self.assertEqual(answers, 4 * ["get A0005 ; = 07"])
 
+    def test_a_file_whose_name_is_no_utf_8(self) -> None:
+        os.rename(self.elements(GOOD), self.folder / "caf\udce9.json")
+        scripts = self.folder / "scripts"
+        done = steps("scripts", scripts, self.folder / "caf\udce9.json")
+        self.assertEqual(done, (0, "1 script\n", ""))
+        self.assertEqual((scripts / "list.txt").read_bytes(), b"caf\xe9/000000.vga -\n")
+        self.assertTrue((scripts / "caf\udce9" / "000000.vga").exists())
+
     def test_reports_of_no_element_agree_with_nothing(self) -> None:
         path = self.elements({**REFUSED, FINAL: GOOD[INITIAL]})
         told = f"{path}: no element\nof all files\n0 elements: 0 agree, 0 differ\n"
@@ -206,6 +215,15 @@ class Counted(unittest.TestCase):
         front = "the first of the file that differs: element 7, a write\nmisc: 2, not 3"
         place = RULES[0].place
         self.assertEqual(text, f"        1 of 1  {self.NAMES[0]}: a ({place})\n{front}")
+
+    def test_a_report_for_test_runners_is_xml_whatever_is_told(self) -> None:
+        held = self.held((0, "a", 0, 1))
+        held.name = "caf\udce9\x1b.json"
+        held.first = FirstDiffering(0, "\x00 read", ["answer: \x01\ud800, not 3"])
+        suite = ElementTree.fromstring(_junit_text([held]).encode("utf-8"))[0]
+        self.assertEqual((suite.get("name"), suite[0].get("classname")), ("caf??.json",) * 2)
+        told = ["the first of the file that differs: element 0, ? read", "answer: ??, not 3"]
+        self.assertEqual((suite[0].findtext("failure") or "").split("\n")[-2:], told)
 
 
 class Differences(Folder):

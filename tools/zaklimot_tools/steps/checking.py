@@ -12,6 +12,7 @@ from zaklimot_tools.core.files import name_of
 from zaklimot_tools.core.progress import Progress
 from zaklimot_tools.core.streams import counted, teller, write_file
 from zaklimot_tools.core.trouble import AGREED, DIFFERED
+from zaklimot_tools.report.cases import printable
 
 from .asking import SKIPPED, AskedAdapter, asked_adapter
 from .comparing import differences, members_in
@@ -179,7 +180,7 @@ def check(words: argparse.Namespace, progress: Progress) -> int:
     if words.json is not None:
         write_file(words.json, (json.dumps([one.told() for one in held]) + "\n").encode("ascii"))
     if words.junit is not None:
-        write_file(words.junit, _junit_text(held).encode("utf-8", "xmlcharrefreplace"))
+        write_file(words.junit, _junit_text(held).encode("utf-8"))
     differ = sum(one.differ for one in held)
     agree = sum(one.agree for one in held)
     total = agree + differ + sum(one.skipped for one in held)
@@ -217,16 +218,19 @@ def _add_suite(suites: ElementTree.Element, file: HeldFile) -> None:
     names = list(dict.fromkeys(one.rule for one in branches))
     failing = {one.rule for one in branches if one.differ}
     counts = {"tests": str(len(names)), "failures": str(len(failing)), "errors": "0"}
-    suite = ElementTree.SubElement(suites, "testsuite", {"name": file.name, **counts})
+    # XML doesn't take all characters that names and answers may have.
+    called = {"name": printable(file.name, "\n"), **counts}
+    suite = ElementTree.SubElement(suites, "testsuite", called)
     for name in names:
         _add_case(suite, file, name, [one for one in branches if one.rule == name and one.differ])
 
 
 def _add_case(suite: ElementTree.Element, file: HeldFile, name: str, wrong: list[Branches]) -> None:
-    case = ElementTree.SubElement(suite, "testcase", classname=file.name, name=name)
+    called = printable(file.name, "\n")
+    case = ElementTree.SubElement(suite, "testcase", classname=called, name=name)
     if wrong and file.first is not None:
         failure = ElementTree.SubElement(case, "failure", message=wrong[0].told().strip())
         lines = [one.told() for one in wrong]
         first = f"element {file.first.element}, {file.first.name}"
         told = [f"the first of the file that differs: {first}", *file.first.differences]
-        failure.text = "\n".join([*lines, *told[: MOST_TOLD + 1]])
+        failure.text = printable("\n".join([*lines, *told[: MOST_TOLD + 1]]), "\n")
