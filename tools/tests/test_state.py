@@ -256,6 +256,10 @@ class Cuts(unittest.TestCase):
             ]
         )
         self.assertEqual((state.beam.frame, state.beam.taken[0x0C]), (2, 0x34))
+        # A frame that begins amid an advance takes what is written by then.
+        steps = [(ADVANCE, 91), (OUTW, 0x3B4, 0x560C), (ADVANCE, 90), (OUTW, 0x3B4, 0x780C)]
+        state = state_of([TraceStep(*step) for step in steps])
+        self.assertEqual((state.beam.frame, state.beam.taken[0x0C]), (2, 0x56))
 
     def test_empty_memory_takes_no_steps(self) -> None:
         self.assertEqual(sum(step.opcode == PUTW for step in rebuilt(state_of(PLANAR))), 0)
