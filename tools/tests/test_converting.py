@@ -116,10 +116,13 @@ class Passing(unittest.TestCase):
 
     def test_frames_by_time(self) -> None:
         puts = b"".join(
-            b"%d w m A0001 1 1\n" % time for time in (400_000, 500_000, 600_000, 5_000_000)
+            b"%d w m A0001 1 1\n" % time
+            for time in (400_000, 500_000, 600_000, 5_000_000, 5_400_000)
         )
         names = [NAMES[step.opcode] for step in steps_listed(BEGIN + puts, frames=0.5)]
-        self.assertEqual(names, ["out", "put", "frame", "put", "put", "frame", "put", "frame"])
+        # After a silence the time is counted anew.
+        wanted = ["out", "put", "frame", "put", "put", "frame", "put", "put", "frame"]
+        self.assertEqual(names, wanted)
 
 
 class Converting(Folder):

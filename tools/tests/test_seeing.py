@@ -3,6 +3,7 @@ and how two traces differ. The program tells all of it."""
 
 from __future__ import annotations
 
+import io
 import re
 import shutil
 import subprocess
@@ -18,7 +19,7 @@ from zaklimot_tools.trace.cells import cells_of, code_page, entry_of, look_of, t
 from zaklimot_tools.trace.colourfiles import starts_of_pages
 from zaklimot_tools.trace.finding import Finder
 from zaklimot_tools.trace.rebuilding import rebuilt_as_told
-from zaklimot_tools.trace.step import TraceStep
+from zaklimot_tools.trace.step import IN, TraceStep
 from zaklimot_tools.trace.told import Told, state_asked
 from zaklimot_tools.trace.trace import SCREEN, Call
 from zaklimot_tools.trace.walking import Item, Question, Walk
@@ -226,6 +227,19 @@ class Walked(Folder):
         with mock.patch.object(walking, "MOST_PART_STEPS", 100):
             parts = [(tag, one.lines) for tag, one in self.walk.answers(items)]
         self.assertEqual(parts, whole)
+
+    def test_a_script_is_full_by_its_bytes_and_by_its_steps(self) -> None:
+        # A read has three bytes; what rebuilds a state doesn't count.
+        reads = [TraceStep(IN, 0x3DA)] * 4
+        for name, most, wanted in (("MOST_PART", 7, 3), ("MOST_PART_STEPS", 2, 2)):
+            part = walking.ScriptPart[int](io.BytesIO())
+            with mock.patch.object(walking, name, most):
+                part.begin(reads)
+                count = 0
+                while not part.is_full and count < len(reads):
+                    part.add(reads[count])
+                    count += 1
+            self.assertEqual(count, wanted, name)
 
     def test_answers_that_tell_nothing(self) -> None:
         told = Told()
