@@ -197,7 +197,7 @@ class Walked(Folder):
         self.assertEqual(vars(one.state.dac), vars(other.state.dac))
 
     def test_a_state_is_rebuilt_with_the_data_of_the_bios(self) -> None:
-        # Text of 25 rows on the third page, of 50 rows, in one colour, without a cursor that is seen;
+        # Text of 25 rows on the third page, of 50 rows, in one colour, with a hidden cursor;
         # graphics; no mode at all.
         for calls in (
             [(0x0003, 0, 0, 0), (0x0502, 0, 0, 0), (0x0200, 0x0200, 0, 0x0507)],
