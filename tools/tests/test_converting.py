@@ -10,7 +10,7 @@ import os
 import subprocess
 import unittest
 from itertools import product
-from typing import Any, Iterable
+from typing import Any, Iterable, Optional
 
 from zaklimot_tools.core.trouble import Trouble
 from zaklimot_tools.trace import converting
@@ -67,6 +67,19 @@ class Passing(unittest.TestCase):
         )
         steps = [TraceStep(OUT, 0x3C2, 0x67), *at(0, 1000)]
         self.assertEqual(list(Pauses().steps(steps)), steps)
+
+    def test_dots_that_are_told_have_all_time_before_them(self) -> None:
+        times: tuple[tuple[int, Optional[int]], ...] = (
+            (0, None),
+            (20, None),
+            (1000, 500),
+            (1015, None),
+            (1030, None),
+        )
+        reads = [TraceStep(IN, 0x3DA, time=time, dots=dots) for time, dots in times]
+        steps = Pauses().steps([*registers(0x67, 0), *reads])
+        passed = [step.address for step in steps if step.opcode == ADVANCE]
+        self.assertEqual(passed, [500, 849])
 
     def test_time_that_is_asked_for_and_not_there(self) -> None:
         ways: tuple[dict[str, Any], ...] = ({"has_time": True}, {"frames": 0.5})

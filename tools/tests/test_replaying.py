@@ -229,6 +229,14 @@ class RealTime(Folder):
             ),
         )
 
+    def test_what_is_written_shows_whatever_is_read_after_it(self) -> None:
+        before = [step._replace(time=0) for step in registers(0x67, 0)]
+        write = TraceStep(PUT, 0xA0000, 1, round(1.2 * self.FRAME))
+        reads = [TraceStep(IN, 0x3DA, 0, round(at * self.FRAME)) for at in (1.4, 2.5, 3.5)]
+        steps = Clocked(1).steps([*before, write, *reads])
+        told = [step.opcode for step in steps][len(before) :]
+        self.assertEqual(told, [FRAME, PUT, IN, FRAME, IN, IN, ADVANCE])
+
     def test_what_is_written_as_a_frame_ends_shows_in_the_next(self) -> None:
         # 95 characters of 8 dots in 265 lines, of 25,175,000 dots a second, last 8 milliseconds.
         dots = 95 * 8 * 265
