@@ -86,6 +86,17 @@ class Differences(Seen):
             lines = self.compare(one, other)[1]
             self.assertEqual(lines[:3], ["register writes: write 1 differs", *wanted])
 
+    def test_the_palette_address_source_is_no_part_of_a_name(self) -> None:
+        one, other = (f"- r p 3DA 0 1\n- w p 3C0 30 1\n- w p 3C0 {value} 1\n" for value in (4, 8))
+        lines = self.compare(one, other)[1]
+        self.assertEqual(
+            lines[1:3],
+            [
+                "  one: attr 10 mode control: 04, at cycle 3",
+                "  other: attr 10 mode control: 08, at cycle 3",
+            ],
+        )
+
     def test_pictures_that_stand_for_a_while(self) -> None:
         shorter = STANDING.replace("500001", "500000")
         status, lines = self.compare(STANDING, shorter)

@@ -338,6 +338,10 @@ class Walked(Folder):
             self.assertEqual(starts_of_pages(state), wanted, mode)
             state.crtc.registers[0x0D] = 7
             self.assertEqual(starts_of_pages(state), sorted([*wanted, 7]))
+        # A last row of which a part is shown is one of the page.
+        state = self.told(call(3, 0, 0, 0)).state
+        state.crtc.registers[0x12] += 1
+        self.assertEqual(starts_of_pages(state), [0x1000 * at for at in range(4)])
 
 
 class Files(Seen):

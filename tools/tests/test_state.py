@@ -261,6 +261,14 @@ class Cuts(unittest.TestCase):
         state = state_of([TraceStep(*step) for step in steps])
         self.assertEqual((state.beam.frame, state.beam.taken[0x0C]), (2, 0x56))
 
+    def test_after_the_last_entry_of_the_dac_comes_the_first(self) -> None:
+        last = [TraceStep(OUT, 0x3C8, 0xFF), *(TraceStep(OUT, 0x3C9, one) for one in (1, 2, 3))]
+        state = state_of(last)
+        self.assertEqual(vars(state_of(rebuilt(state)).dac), vars(state.dac))
+        state = state_of([*last, *(TraceStep(OUT, 0x3C9, one) for one in (4, 5, 6))])
+        self.assertEqual(state.dac.components, [4, 5, 6] + [0] * 762 + [1, 2, 3])
+        self.assertEqual(state.dac.index, 1)
+
     def test_empty_memory_takes_no_steps(self) -> None:
         self.assertEqual(sum(step.opcode == PUTW for step in rebuilt(state_of(PLANAR))), 0)
         filled = [TraceStep(PUTW, 0xA0000 + at, 0x5555) for at in range(0, 1024, 2)]
