@@ -5,7 +5,7 @@ from __future__ import annotations
 import gzip
 import json
 from pathlib import Path
-from typing import Iterator
+from typing import Any, Iterator
 
 from zaklimot_tools.trace.recording import PHASES
 
@@ -136,18 +136,18 @@ def trace_files(trace: bytes) -> Iterator[tuple[str, bytes]]:
     yield "unjudged/trace.gz", packed
 
 
-def _text(elements: list[object]) -> bytes:
+def _text(elements: list[Any]) -> bytes:
     rows = ",\n".join(json.dumps(one, separators=(",", ":")) for one in elements)
     return f"[\n{rows}\n]\n".encode()
 
 
-def _adapters(elements: list[dict[str, object]]) -> Iterator[tuple[str, bytes]]:
+def _adapters(elements: list[Any]) -> Iterator[tuple[str, bytes]]:
     """What adapters answer to the elements of the file, which `cat` writes: right or not."""
-    right = [
+    right: list[dict[str, Any]] = [
         {name: one[name] for name in ("final", "answer", "refused") if name in one}
         for one in elements
     ]
-    made = {
+    made: dict[str, list[Any]] = {
         "right": right,
         "wrong": [{**one, "answer": 1} if at in (2, 3) else one for at, one in enumerate(right)],
         "refusing": [{"refused": "NotDecoded", "final": one["final"]} for one in right],
@@ -187,8 +187,9 @@ def element_files(elements: bytes) -> Iterator[tuple[str, bytes]]:
 def made_files(folder: Path, program: str | Path, fonts: str | Path) -> Iterator[tuple[str, bytes]]:
     """Reports of scripts of the traces and elements that are in a folder, and a recording that was
     kept."""
-    for name, options in (("dots", ["--time"]), ("refused", []), ("typed", [])):
-        given = folder / (name + (".log" if name == "typed" else ".trace"))
+    for name, ending in (("dots", "trace"), ("refused", "trace"), ("typed", "log")):
+        options = ["--time"] if name == "dots" else []
+        given = folder / f"{name}.{ending}"
         run_tool("vga-trace", "convert", given, folder / f"{name}.bin", *options)
         words = (program, "run", folder / f"{name}.bin", "--fonts", fonts)
         (folder / "report").write_bytes(ended(*words, text=False)[1])

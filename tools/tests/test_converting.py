@@ -18,7 +18,20 @@ from zaklimot_tools.trace.words import main
 from zaklimot_tools.trace.converting import Pauses, Written, count, folded, with_flips
 from zaklimot_tools.trace.step import ADVANCE, FRAME, IN, NAMES, OUT, OUTW, PUT, TraceStep
 
-from .tools import EXAMPLES, Folder, begin, call, hold, hold_undone, patched, ppm, report, run_texts
+from .tools import (
+    EXAMPLES,
+    PROGRAM,
+    Folder,
+    begin,
+    call,
+    hold,
+    hold_undone,
+    patched,
+    ppm,
+    report,
+    run_texts,
+    want_program,
+)
 from .tracing import BEGIN, cycles, listed, qemu, registers, run, steps_listed, texts, warned
 
 
@@ -245,6 +258,18 @@ class Endings(Folder):
             (command.wait(60), script.read_bytes()),
             (0, b"VGAS\x01" + 3 * b"\x01\xc2\x03\x67" + b"\x0b"),
         )
+
+    def test_a_moment_of_a_trace_without_an_end(self) -> None:
+        want_program()
+        words = ("palette", "-", self.folder / "o.gpl", "--cycle", "3", "--vga", PROGRAM)
+        command = begin("vga-trace", *words, stdin=subprocess.PIPE)
+        self.addCleanup(command.communicate)
+        self.addCleanup(command.kill)
+        assert command.stdin is not None
+        with contextlib.suppress(BrokenPipeError):
+            for _ in range(1000):
+                command.stdin.write(1000 * BEGIN)
+        self.assertEqual((command.wait(60), self.names()), (0, ["o.gpl"]))
 
     def test_a_compressed_trace_that_is_cut_off(self) -> None:
         for data, cut in product(

@@ -293,7 +293,8 @@ class Recorded(Folder):
         )
 
     def test_a_screen_after_one_whose_frames_have_no_picture(self) -> None:
-        frames = [*["ragged"] * PHASES, *[PICTURE] * PHASES, PICTURE]
+        frames: list[str | bytes] = ["ragged"] * PHASES
+        frames += [PICTURE] * (PHASES + 1)
         screens = ("--screen", "quiet") * 2
         status, lines, _ = self.record(*screens, program=self.answering("ok", *frames))
         self.assertEqual(status, 1)

@@ -257,8 +257,14 @@ class Cuts(unittest.TestCase):
         )
         self.assertEqual((state.beam.frame, state.beam.taken[0x0C]), (2, 0x34))
         # A frame that begins amid an advance takes what is written by then.
-        steps = [(ADVANCE, 91), (OUTW, 0x3B4, 0x560C), (ADVANCE, 90), (OUTW, 0x3B4, 0x780C)]
-        state = state_of([TraceStep(*step) for step in steps])
+        state = state_of(
+            [
+                TraceStep(ADVANCE, 91),
+                TraceStep(OUTW, 0x3B4, 0x560C),
+                TraceStep(ADVANCE, 90),
+                TraceStep(OUTW, 0x3B4, 0x780C),
+            ]
+        )
         self.assertEqual((state.beam.frame, state.beam.taken[0x0C]), (2, 0x56))
 
     def test_after_the_last_entry_of_the_dac_comes_the_first(self) -> None:
