@@ -83,6 +83,32 @@ end
 ; after it
 show beam ; = beam frame 2...
 """
+# Blanks, tabs and letters as they may stand around answers.
+SPACED = """in 3CC\t;=00;and more
+  IN 3cc   ;   =   00   ;   and more ; and more
+In 3CC; = 0...
+in 3CC ; == 00
+in 3CC ; =
+int AX=3 ; = AX=0003  bx=0000\tcx=0000 dx=0000
+int ax=0300 ; = dx=0000 cx=0d0e ; the cursor
+SHOW BEAM ; = beam  frame 0 LINE 0 char 0 dot 0 base 0000 scan 0 half 0 split 0 rows 0
+frame;= PICTURE 720X400
+"""
+# Calls that leave their registers, that answer others, and that answer a block.
+CALLS = """int ax=3
+int ax=3 cx=1234 ; = ax=0003
+int ax=0E41 bx=7
+int ax=0300 bx=0000
+int ax=0F00 dx=FFFF
+int ax=1017 cx=2 ; = block 000000
+int ax=1017 bx=7 cx=1
+int ax=1009 ; = ax=1009
+int ax=0300 ; = ax=0300 ax=0300
+int ax=0300 ; = bx=0000 dx=0001
+int ax=0C01 ; = E6 wrongkind
+int ax=0509
+int ax=0501
+"""
 # Why services, ports and memory refuse.
 REFUSED = """int ax=0200
 int ax=4
@@ -150,6 +176,7 @@ REPORTS = {
     "small.txt": "1 ok\n2 0e\n",
     "large.txt": "1 ok\n2 0E\n",
     "gap.txt": "1 ok\n3 ok\n",
+    "behind.txt": STEPS + f"picture 37\n{DOTS}\1\n6 ok\n",
     "ends.txt": STEPS.replace("\n", "\r\n"),
     "fault.txt": "F7 BadLine(3)\n",
     "fault-4.txt": "F7 BadLine(4)\n",
@@ -207,6 +234,14 @@ CASES = {
     "a/f.fnt": "another one",
     "here.txt": "front cases/front.vga\ncases/good/plain-2 until 1\n",
     "crlf.txt": LIST.replace("\n", "\r\n"),
+    "ends.txt": "good/end until 5\n",
+    "ends-2.txt": "good/end until 1\n",
+    "good/end.vga": "in 3CC ; No line ends here.",
+    "good/end.txt": "1 00\n2 no\n",
+    "twice.txt": "other/twice\n",
+    "other/twice.vga": "version 2\nrepeat 3\nframe\nin 3DA\nend\n",
+    "other/twice.txt": "1 picture 37 9x1\n000000*9\n2 00\n3 picture 37 9x1\n000000*8 000001\n"
+    "4 E1 NotDecoded\n5 picture 37 9x1\n000000*9\n6 00\n",
     "pictures.txt": "other/pictures\nother/short\n",
     "other/pictures.vga": "frame\n" * 3,
     "other/pictures.txt": "1-2 ok\n3 picture 37 9x1\n000000*8 000001\n",
@@ -229,6 +264,8 @@ ANSWERED = {
     "other/bytes.txt": f"1 picture 37\n{DOTS}\0\n2 picture 37\n{DOTS}\0\n",
     "other/stopped.txt": f"1 picture 37\n{DOTS}\0\n2 ok\n3 ok\n",
     "other/refused-3.txt": "1 00\n",
+    "other/twice.txt": f"1 picture 37\n{DOTS}\0\n2 00\n3 picture 37\n{DOTS}\0\n4 E1 NotDecoded\n"
+    f"5 picture 37\n{DOTS}\2\n6 01\n",
     # Where the run is to stop after so many steps.
     "good/plain--until 2.txt": "1 ok\n2 03\n3 03\n4 ok\n5 ok\n",
     "other/stopped--until 1.txt": f"1 picture 37\n{DOTS}\0\n2 ok\n3 ok\n4 ok\n5 no\n",
@@ -240,6 +277,8 @@ TEXTS = {
     "dumped.vga": DUMPED,
     "blocks.vga": BLOCKS,
     "refused.vga": REFUSED,
+    "spaced.vga": SPACED,
+    "calls.vga": CALLS,
     "no-end.vga": "in 3CC ; = 00\nshow beam\nin 3CC",
     "a b's.vga": "in 3CC ; \u00e9\nin 3CC ; = 01\n",
     "named/\u00e9 <&>.vga": "in 3CC ; = 01\n",
@@ -249,6 +288,8 @@ TEXTS = {
     "two/b/it's <b>.vga": "in 3DA\nframe\n",
     "two/c.vga/s.txt": "frame\n",
     "f.fnt": "",
+    "shown/0004.png": "an old one",
+    "shown/0099.png": "an old one",
     **BAD,
     **REPORTS,
     **{f"cases/{name}": text for name, text in CASES.items()},
