@@ -176,6 +176,7 @@ REPORTS = {
     "small.txt": "1 ok\n2 0e\n",
     "large.txt": "1 ok\n2 0E\n",
     "gap.txt": "1 ok\n3 ok\n",
+    "value.txt": f"1 ok\n2 04\n3 ok\n4 picture 37\n{DOTS}\1\n",
     "behind.txt": STEPS + f"picture 37\n{DOTS}\1\n6 ok\n",
     "ends.txt": STEPS.replace("\n", "\r\n"),
     "fault.txt": "F7 BadLine(3)\n",
@@ -238,6 +239,9 @@ CASES = {
     "ends-2.txt": "good/end until 1\n",
     "good/end.vga": "in 3CC ; No line ends here.",
     "good/end.txt": "1 00\n2 no\n",
+    "said.txt": "good/said until 2\n",
+    "good/said.vga": "in 3CC ; repeat 2\nin 3CC ; version 2\n\nin 3CC ; end\n",
+    "good/said.txt": "1 00\n2 00\n3 no\n",
     "twice.txt": "other/twice\n",
     "other/twice.vga": "version 2\nrepeat 3\nframe\nin 3DA\nend\n",
     "other/twice.txt": "1 picture 37 9x1\n000000*9\n2 00\n3 picture 37 9x1\n000000*8 000001\n"
@@ -279,6 +283,9 @@ TEXTS = {
     "refused.vga": REFUSED,
     "spaced.vga": SPACED,
     "calls.vga": CALLS,
+    # Numbers of refusals that begin alike.
+    "near.vga": "out 3D4 0 ; = E12\nout 3D4 0 ; = E1 N\nout 3D4 0 ; = E1\n"
+    "advance 16777217 ; = E1\n",
     "no-end.vga": "in 3CC ; = 00\nshow beam\nin 3CC",
     "a b's.vga": "in 3CC ; \u00e9\nin 3CC ; = 01\n",
     "named/\u00e9 <&>.vga": "in 3CC ; = 01\n",
@@ -287,6 +294,7 @@ TEXTS = {
     "two/b/s.bin": "VGAS\1",
     "two/b/it's <b>.vga": "in 3DA\nframe\n",
     "two/c.vga/s.txt": "frame\n",
+    "two/d/UPPER.VGA": "in 3CC ; = 02\n",
     "f.fnt": "",
     "shown/0004.png": "an old one",
     "shown/0099.png": "an old one",

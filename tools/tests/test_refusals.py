@@ -36,6 +36,7 @@ LINES = [
 # byte of a plane.
 HEX, COMMENT = "numbers are hexadecimal digits alone: write ", "comments begin with ;"
 DOTS, GLUED = "DOTS is decimal digits alone: write ", "a blank stands between words: write "
+BLOCK_DIGITS = "a block is hexadecimal digits alone, two for each byte"
 ALONE = "nothing stands after the name of a step but blanks: write "
 ONE_STEP, DIGITS_MOST = "a word too many: one step stands on a line", "and 2 digits are the most"
 ALWAYS = "a call is always interrupt 10, and its numbers stand after their registers"
@@ -68,6 +69,10 @@ BOUNDS: tuple[tuple[str, str, str], ...] = (
     *(
         (f"int ax {text} bx=4", "ax", "no blank stands around =: write ax=3")
         for text in ("= 3", "=3")
+    ),
+    *(
+        (f"int block {text}", text, f"{BLOCK_DIGITS}: write ABCD")
+        for text in ("0xabcd", "ab,cd", "$ABcd")
     ),
     ("int block 5", "5", "a block has two digits for each byte, and these are 1"),
     (f"int block {'5' * 131_072}", "5" * 131_072, "a block has at most 65535 bytes"),

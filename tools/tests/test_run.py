@@ -319,7 +319,7 @@ class Listings(Fake):
                 )
 
     def test_programs_that_do_not_do_it(self) -> None:
-        good = self.vga.read_text()
+        good = self.vga.read_text().replace("import sys\n", "import os, sys\n", 1)
         fault = "t.vga:2: F7 BadLine(2): refused"
         for text, script, told in (
             (
@@ -331,6 +331,12 @@ class Listings(Fake):
                 good + "if words[0] == 'go': out.write(b'7 ok\\n')\n",
                 TEXT,
                 "t.vga: the report goes on after the last step, 6\n",
+            ),
+            # A signal ends it once all is answered.
+            (
+                good + "if words[0] == 'go': out.flush(), os.kill(os.getpid(), 9)\n",
+                TEXT,
+                "t.vga: the program ended without a word\n",
             ),
             ("#!/bin/true", TEXT, "t.vga: the report ends after 0 of 6 steps\n"),
             # A fault may stand in the place of a report.
