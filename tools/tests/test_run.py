@@ -417,15 +417,19 @@ class Listings(Fake):
         self.assertEqual(blessing.text(), "version 2\nrepeat 2\nget 0 ; = *\nend\n")
 
     def test_a_step_that_is_refused_in_some_turns_alone_may_answer_anything(self) -> None:
-        text = "version 2\nrepeat 2\nout 3D4 0E\nget 0\nend\nget 0\n"
-        for answers in (("ok", "E1 NotDecoded"), ("E1 NotDecoded", "ok")):
-            blessing = Blessing(text.encode(), True)
-            for turn, answer in enumerate(answers):
-                blessing.take(Row(Answer(2 * turn + 1, 1, answer), "out 3D4 0E", 3))
-                blessing.take(Row(Answer(2 * turn + 2, 1, "55"), "get 0", 4))
-            blessing.take(Row(Answer(5, 1, "66"), "get 0", 6))
-            wanted = text.replace("0E", "0E ; = *").replace("get 0\nend", "get 0 ; = 55\nend")
-            self.assertEqual(blessing.text(), wanted[:-1] + " ; = 66\n")
+        # It is repeated alone, behind another or before another.
+        for front, behind in (("", ""), ("get 0\n", ""), ("", "get 0\n")):
+            block = f"version 2\nrepeat 2\n{front}out 3D4 0E\n{behind}end\n"
+            lines = block.splitlines()
+            for answers in (("ok", "E1 NotDecoded"), ("E1 NotDecoded", "ok")):
+                blessing = Blessing(f"{block}get 0\n".encode(), True)
+                for answer in answers:
+                    for number, line in enumerate(lines[2:-1], 3):
+                        told = answer if line.startswith("out") else "55"
+                        blessing.take(Row(Answer(number, 1, told), line, number))
+                blessing.take(Row(Answer(9, 1, "66"), "get 0", len(lines) + 1))
+                wanted = block.replace("0E", "0E ; = *").replace("get 0", "get 0 ; = 55")
+                self.assertEqual(blessing.text(), f"{wanted}get 0 ; = 66\n")
 
     def test_of_a_dump_that_is_another_one_each_time_no_lines_are_written(self) -> None:
         blessing = Blessing(b"version 2\nrepeat 2\nshow regs\n;| old\nend\n", True)
