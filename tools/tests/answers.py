@@ -29,6 +29,7 @@ from typing import Callable, Iterable, Iterator, Mapping, Union
 from zaklimot_tools.script.program import found_program
 from zaklimot_tools.script.words import FONTS
 
+from . import answer_texts
 from .answered import element_files, made_files, trace_files
 from .stepping import compile_library
 from .tools import EXAMPLES, TOP, ended, ppm, run_tool
@@ -121,6 +122,7 @@ TEXTS = {
     "ports.trace": PORTS,
     "bad.trace": "0 w p 3C2 67 1\n0 w p 3C2 67\n",
     "no.trace": "; nothing\n",
+    **answer_texts.TEXTS,
 }
 
 
@@ -139,6 +141,19 @@ def _images() -> Iterator[tuple[str, bytes]]:
     yield "nine.ppm", ppm(9, 1, bytes(27))
     yield "near.ppm", ppm(9, 1, bytes(24) + bytes((1, 0, 1)))
     yield "twice.ppm", ppm(18, 2, bytes(108))
+
+
+def _odd_scripts(script: bytes) -> dict[str, bytes]:
+    """Scripts of bytes that end early or begin late, and those that are no text."""
+    return {
+        "cut.bin": script[:-6],
+        "zero.bin": b"",
+        "three.bin": b"VGA",
+        "four.bin": b"VGAS",
+        "repeats.bin": b"VGAS\2\x0d\3\0\x03\xcc\3\x0e\x0b",
+        "bytes.vga": b"VGAS\1\x0b",
+        "latin.vga": "in 3CC ; = 01 ; Gr\u00fc\u00dfe\nin 3CC ; \u00fc\n".encode("latin-1"),
+    }
 
 
 @lru_cache(None)
@@ -165,6 +180,8 @@ def given_files() -> dict[str, bytes]:
     files["other.txt"] = report.replace(b"2 03", b"2 01")
     files["longer.txt"] = report + b"5 ok\n"
     files["cut.txt"] = report[:-5]
+    files.update(_odd_scripts(files["repeated.bin"]))
+    files["both.txt"] = report + b"5 " + files["wider.txt"].partition(b"\n4 ")[2]
     files["off.json"] = elements.replace(b'"answer":21', b'"answer":20', 1)
     return {**files, **dict(_images())}
 

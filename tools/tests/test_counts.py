@@ -2,6 +2,7 @@
 
 from __future__ import annotations
 
+import argparse
 import contextlib
 import io
 import json
@@ -9,6 +10,7 @@ from pathlib import Path
 from typing import Mapping, Optional, Sequence
 
 from zaklimot_tools.core.processes import Done
+from zaklimot_tools.core.progress import Progress
 from zaklimot_tools.dev.testing import checking, running
 from zaklimot_tools.dev.testing.checking import check_suite
 from zaklimot_tools.dev.testing.running import Counts, run_modules
@@ -75,5 +77,28 @@ class Counted(Folder):
             (
                 (both, "11 passed, 22 failed, 33 skipped"),
                 (Counts(0, 1), "0 passed, 1 failed"),
+            ),
+        )
+
+    def test_whether_all_is_right(self) -> None:
+        def status(suite: Counts, tests: Counts) -> int:
+            given = {
+                "portable_program": lambda: "vga",
+                "check_suite": lambda _: suite,
+                "run_modules": lambda *_: tests,
+            }
+            words = argparse.Namespace(modules=[])
+            with patched(checking, given), contextlib.redirect_stdout(io.StringIO()):
+                return checking.check(words, Progress(False))
+
+        hold(
+            self,
+            status,
+            (
+                (Counts(2, 0, 1), Counts(3, 0, 1), 0),
+                (Counts(2, 1), Counts(3), 1),
+                (Counts(2), Counts(3, 1), 1),
+                # Where all are skipped, nothing was tested.
+                (Counts(0, 0, 2), Counts(0, 0, 3), 1),
             ),
         )

@@ -14,7 +14,11 @@ from pathlib import Path
 from unittest import mock
 
 from zaklimot_tools.core.processes import Streamed
+from zaklimot_tools.core.progress import Progress
+from zaklimot_tools.report import folders, suite
+from zaklimot_tools.report.listing import RunScript
 from zaklimot_tools.report.suite import AGREES, DIFFERS, FAILED, SKIPPED, Result, _worst
+from zaklimot_tools.report.words import parser
 from zaklimot_tools.script import launching, program
 from zaklimot_tools.script.program import (
     BuiltProgram,
@@ -24,7 +28,7 @@ from zaklimot_tools.script.program import (
     fault_of,
 )
 
-from .tools import TOOLS, Folder, hold, patched, refused, run_tool, stream
+from .tools import TOOLS, Folder, hold, patched, refused, report, run_tool, stream
 
 ADAPTER = shlex.join([sys.executable, str(TOOLS / "tests" / "adapter.py")])
 CALLED = "1 ax=0003 bx=0000 cx=0000 dx=0000\n"
@@ -290,3 +294,53 @@ class Programs(Folder):
             f"{data('s.bin')}run script --fonts fonts --until 1\n"
         )
         self.assertEqual((crate / "asked").read_text(), wanted)
+
+
+@unittest.skipIf(sys.platform == "win32", "a script is a program on POSIX")
+class Progresses(Folder):
+    """What a terminal shows while scripts and cases run."""
+
+    def setUp(self) -> None:
+        super().setUp()
+        self.progress = mock.create_autospec(Progress, instance=True)
+        self.progress.is_due.return_value = True
+        self.progress.is_wanted = True
+
+    def told(self) -> list[str]:
+        """All that was shown."""
+        return [call.args[0] for call in self.progress.tell.call_args_list]
+
+    def test_how_many_cases_do_not_agree(self) -> None:
+        for name, answered in (("a", "00"), ("b", "01"), ("c", ""), ("d", "skipped"), ("e", "no")):
+            self.write(f"{name}.vga", "in 3CC\n")
+            self.write(f"{name}.txt", "1 00\n")
+            self.write(f"{name}.report", report(answered) if answered else "no report\n")
+        cases = self.write("list.txt", "a\nb\nc\nd\ne\n")
+        given = ["suite", f"cat {self.folder}/{{name}}.report", "--list", cases]
+        words = parser().parse_args(given)
+        suite._results(words, suite._chosen(words), self.progress)
+        wrong = zip("abcde", (0, 1, 2, 2, 3))
+        wanted = [
+            f"{at} of 5 cases, {count} don't agree: {name}"
+            for at, (name, count) in enumerate(wrong, 1)
+        ]
+        self.assertEqual(self.told(), wanted)
+
+    def test_which_script_of_a_folder_was_run(self) -> None:
+        words = parser().parse_args(["run", str(self.folder)])
+        paths = [Path(self.write(name, "frame\n")) for name in ("a.vga", "b/a.vga", "c.bin")]
+        for _ in folders._runs(words, paths, lambda *_: 0, self.folder, self.progress):
+            pass
+        wanted = [f"{at} of 3 scripts: {path}" for at, path in enumerate(paths, 1)]
+        self.assertEqual(self.told(), wanted)
+
+    def test_which_step_was_answered(self) -> None:
+        # Of a script that repeats steps all count, and lines do not.
+        text = "version 2\n\nrepeat 2\nget 0\nend\nget 0\n"
+        path = self.write("s.vga", text)
+        answers = BuiltProgram(self.answering("00", "00", "00"))
+        with open(self.folder / "printed", "w+b") as printed:
+            script = RunScript(path, text.encode(), answers, "a script", printed)
+            list(script.rows("fonts", None, self.progress, False, False))
+        wanted = [f"a script: step {number} of 3" for number in (1, 2, 3)]
+        self.assertEqual([told for told in self.told() if "no answer yet" not in told], wanted)

@@ -254,6 +254,11 @@ class Animations(Folder):
             script = self.write("s.vga", f"int ax=3\nframe\nadvance {dots}\nframe\n")
             done = run("pictures", path, "--apng", moving, "--script", script)
             self.assertEqual(done, (0, f"{moving}: 2 frames, {seconds:.3f} seconds\n".encode(), ""))
+        # Behind the last frame too; not where nothing tells how long frames are.
+        for front, seconds in (("int ax=3", 0.057), ("out 3C2 67", 0.029)):
+            script = self.write("s.vga", f"{front}\nframe\nadvance 0\nframe\nadvance 1212299\n")
+            done = run("pictures", path, "--apng", moving, "--script", script)
+            self.assertEqual(done, (0, f"{moving}: 2 frames, {seconds:.3f} seconds\n".encode(), ""))
         # One step of those that differ in size.
         self.report("r", PICTURE, ppm(1, 1, RED))
         self.assertEqual(run("pictures", path, "--apng", moving, "--step", "2")[0], 0)

@@ -7,7 +7,9 @@ import contextlib
 import io
 import os
 from functools import partial
+from urllib.parse import unquote
 
+from zaklimot_tools.report.debugging import DOCS, page_data
 from zaklimot_tools.report.words import parser
 
 from .tools import BLACK, Folder, ppm, report, run_tool
@@ -144,6 +146,12 @@ class Options(Folder):
             told = f"{name}: open it in a browser, for instance as {address}\n"
             self.assertEqual(done, (0, told.encode(), ""))
             self.assertTrue((self.folder / name).exists())
+
+    def test_a_page_on_standard_output_is_one_of_the_current_folder(self) -> None:
+        status, page, said = self.done("run s.vga --debug -")
+        self.assertEqual((status, said), (0, ""))
+        pages = unquote(page_data(page.decode())["pages"])
+        self.assertEqual((self.folder / pages).resolve(), DOCS)
 
     def test_a_page_wants_a_font_file_of_its_size(self) -> None:
         wrong = "vga-report: {0}: the font file has {1} bytes, and 9,728 are right\n".format

@@ -36,6 +36,7 @@ LINES = [
 # byte of a plane.
 HEX, COMMENT = "numbers are hexadecimal digits alone: write ", "comments begin with ;"
 DOTS, GLUED = "DOTS is decimal digits alone: write ", "a blank stands between words: write "
+BLOCK_DIGITS = "a block is hexadecimal digits alone, two for each byte"
 ALONE = "nothing stands after the name of a step but blanks: write "
 ONE_STEP, DIGITS_MOST = "a word too many: one step stands on a line", "and 2 digits are the most"
 ALWAYS = "a call is always interrupt 10, and its numbers stand after their registers"
@@ -65,6 +66,14 @@ BOUNDS: tuple[tuple[str, str, str], ...] = (
     *((f"advance {text}", text, f"{DOTS}1000") for text in ("1'000", "1_000", "1,000", "1000.")),
     ("repeat 0", "0", "N is from 1 to 65535"),
     ("int ax=3 ax=4", "ax=4", "ax stands twice"),
+    *(
+        (f"int ax {text} bx=4", "ax", "no blank stands around =: write ax=3")
+        for text in ("= 3", "=3")
+    ),
+    *(
+        (f"int block {text}", text, f"{BLOCK_DIGITS}: write ABCD")
+        for text in ("0xabcd", "ab,cd", "$ABcd")
+    ),
     ("int block 5", "5", "a block has two digits for each byte, and these are 1"),
     (f"int block {'5' * 131_072}", "5" * 131_072, "a block has at most 65535 bytes"),
     *(
@@ -231,6 +240,14 @@ FAULTS_TOLD = (
         "s:1",
         "this is not a script, but a font file",
         (TOP / "fonts" / "zaklimot.fnt").read_bytes(),
+    ),
+    # Bytes that are as many as a font file has, or one more.
+    *(
+        ("F7 BadLine(1)", "s:1", f"this is not a script{what}", bytes(count))
+        for what, count in (
+            (", but a font file", 9728),
+            (": it has bytes that no text has", 9729),
+        )
     ),
     # A mark stands below a line.
     (

@@ -319,7 +319,7 @@ class Listings(Fake):
                 )
 
     def test_programs_that_do_not_do_it(self) -> None:
-        good = self.vga.read_text()
+        good = self.vga.read_text().replace("import sys\n", "import os, sys\n", 1)
         fault = "t.vga:2: F7 BadLine(2): refused"
         for text, script, told in (
             (
@@ -331,6 +331,12 @@ class Listings(Fake):
                 good + "if words[0] == 'go': out.write(b'7 ok\\n')\n",
                 TEXT,
                 "t.vga: the report goes on after the last step, 6\n",
+            ),
+            # A signal ends it once all is answered.
+            (
+                good + "if words[0] == 'go': out.flush(), os.kill(os.getpid(), 9)\n",
+                TEXT,
+                "t.vga: the program ended without a word\n",
             ),
             ("#!/bin/true", TEXT, "t.vga: the report ends after 0 of 6 steps\n"),
             # A fault may stand in the place of a report.
@@ -409,6 +415,21 @@ class Listings(Fake):
         for answer in ("55", "66"):
             blessing.take(Row(Answer(1, 1, answer), "get 0", 3, None, (), "", False))
         self.assertEqual(blessing.text(), "version 2\nrepeat 2\nget 0 ; = *\nend\n")
+
+    def test_a_step_that_is_refused_in_some_turns_alone_may_answer_anything(self) -> None:
+        # It is repeated alone, behind another or before another.
+        for front, behind in (("", ""), ("get 0\n", ""), ("", "get 0\n")):
+            block = f"version 2\nrepeat 2\n{front}out 3D4 0E\n{behind}end\n"
+            lines = block.splitlines()
+            for answers in (("ok", "E1 NotDecoded"), ("E1 NotDecoded", "ok")):
+                blessing = Blessing(f"{block}get 0\n".encode(), True)
+                for answer in answers:
+                    for number, line in enumerate(lines[2:-1], 3):
+                        told = answer if line.startswith("out") else "55"
+                        blessing.take(Row(Answer(number, 1, told), line, number))
+                blessing.take(Row(Answer(9, 1, "66"), "get 0", len(lines) + 1))
+                wanted = block.replace("0E", "0E ; = *").replace("get 0", "get 0 ; = 55")
+                self.assertEqual(blessing.text(), f"{wanted}get 0 ; = 66\n")
 
     def test_of_a_dump_that_is_another_one_each_time_no_lines_are_written(self) -> None:
         blessing = Blessing(b"version 2\nrepeat 2\nshow regs\n;| old\nend\n", True)

@@ -93,6 +93,16 @@ class Style(Folder):
         wanted = f"failed  black\na.py\npassed  flake8\npassed  mypy\npassed  {TYPES}\n"
         self.assertEqual((status, told), (1, wanted))
 
+    def test_those_of_the_system_judge_before_others_of_their_names(self) -> None:
+        places = [
+            self.program(place, "#!/bin/sh\n") for place in ("bin/black", "own/black", "own/mypy")
+        ]
+        own = {"PATH": str(self.folder / "own")}
+        system = mock.patch.object(style, "SYSTEM", str(self.folder / "bin"))
+        with mock.patch.dict(os.environ, own), system:
+            found = [style.found(name) for name in ("black", "mypy", "flake8")]
+        self.assertEqual(found, [places[0], places[2], None])
+
     def test_all_settings_say_the_same(self) -> None:
         settings = (TOP / style.SETTINGS).read_text("utf-8")
         width = re.findall(r"^line-length = (\d+)$", settings, re.M)

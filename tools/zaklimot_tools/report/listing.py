@@ -420,23 +420,31 @@ class Blessing:
     def __init__(self, data: bytes, is_all: bool) -> None:
         self._lines = text_of(data).split("\n")
         self._is_all = is_all
-        # What each line's step answered, and which lines change.
+        # What each line's step answered, and which lines change; and the last line of which a step
+        # was taken.
         self._answers: dict[int, BlessedAnswer] = {}
         self._changed: set[int] = set()
+        self._last = 0
 
     def take(self, row: Row) -> None:
         """Takes a step's answer. That of a block's step may be another each time: then any will
         do."""
         number = row.line
-        if number is None or not (
-            row.expected is not None or is_worth_telling(row.step, row.words)
-        ):
+        if number is None:
             return
+        is_again = number <= self._last
+        self._last = max(self._last, number)
+        is_told = row.expected is not None or is_worth_telling(row.step, row.words)
         dump = row.step.lines if row.step.others else ()
         answered = BlessedAnswer(answer_of(row.step), dump)
-        if self._answers.setdefault(number, answered) != answered:
+        if is_told:
+            # What was not worth telling before was another answer.
+            known = self._answers.setdefault(number, BlessedAnswer(ANY) if is_again else answered)
+        else:
+            known = self._answers.get(number, answered)
+        if known != answered:
             self._answers[number] = BlessedAnswer(ANY)
-        if row.is_wrong or self._is_all and row.expected is None:
+        if row.is_wrong or self._is_all and row.expected is None and is_told:
             self._changed.add(number)
 
     def changes(self) -> Iterator[ChangedLine]:

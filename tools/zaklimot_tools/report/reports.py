@@ -97,7 +97,7 @@ class _Moving:
     def __init__(self, words: argparse.Namespace) -> None:
         self._path = words.apng
         self._animation = Animation(Shape(words.scale, words.aspect))
-        self._delay = delays_of(words.script)
+        self._delay = delays_of(words.script, to_the_end=True)
 
     def take(self, number: int, picture: Picture) -> None:
         """Takes the picture of a step."""
@@ -129,9 +129,9 @@ def pictures(words: argparse.Namespace, progress: Progress) -> int:
     return AGREED
 
 
-def delays_of(script: Optional[str]) -> Callable[[int], float]:
+def delays_of(script: Optional[str], to_the_end: bool = False) -> Callable[[int], float]:
     """How long the frame of a step lasts, with the whole frames that an advance passes over behind
-    it, as a script tells it."""
+    it, as a script tells it. What stands behind the last frame may count too."""
     if script is None:
         return lambda number: USUAL
     registers = Registers()
@@ -144,12 +144,13 @@ def delays_of(script: Optional[str]) -> Callable[[int], float]:
         if step.name == "advance" and step.numbers[0] <= MOST_ADVANCE:
             dots += step.numbers[0]
         if step.name == "frame":
-            speed = registers.speed()
-            if last and speed:
-                frames[last] += dots // speed.dots * speed.dots / speed.clock
+            if last:
+                frames[last] += _passed(dots, registers)
             frames[number] = registers.frame()
             last = number
             dots = 0
+    if last and to_the_end:
+        frames[last] += _passed(dots, registers)
 
     def delay(number: int) -> float:
         if number not in frames:
@@ -163,6 +164,12 @@ def delays_of(script: Optional[str]) -> Callable[[int], float]:
         return frames[number]
 
     return delay
+
+
+def _passed(dots: int, registers: Registers) -> float:
+    """The seconds of the whole frames in so many dots; 0 where the script doesn't tell."""
+    speed = registers.speed()
+    return 0 if speed is None else dots // speed.dots * speed.dots / speed.clock
 
 
 def _write_picture(words: argparse.Namespace, stem: str, picture: Picture, shape: Shape) -> None:
