@@ -25,10 +25,15 @@ from functools import lru_cache
 from pathlib import Path
 from typing import Iterable, Iterator, Mapping, Union
 
+from zaklimot_tools.dev.emulators.table_page import FIRST_MARK, LAST_MARK
+from zaklimot_tools.explain.faults import script_of
+from zaklimot_tools.floppy.image import image_for
 from zaklimot_tools.script.program import found_program
 from zaklimot_tools.script.words import FONTS
 
+from .floppy import ANSWERS, MARK, Machine
 from .stepping import compile_library
+from .test_images import png
 from .tools import EXAMPLES, TOP, ended, ppm, run_tool
 
 FILE = Path(__file__).with_suffix(".json")
@@ -90,6 +95,18 @@ TRACE = """; A line of text, with a pause.
 1900010 w p 3D5 04 1
 2000000 w m B8800 0750 2
 """
+# What a machine can answer, and what it skips: bytes, words, calls with registers and a table.
+ASKED_OF_MACHINES = """int ax=3
+outw 3C4 0F02
+in 3CC
+inw 3CE
+in 3DA
+int ax=0300 bx=0102 cx=0304
+int ax=1017 bx=FE cx=2
+frame
+put A0000 5A
+getw AFFFF
+"""
 # The same without the call of interrupt 10.
 PORTS = "".join(line for line in TRACE.splitlines(True) if " int " not in line)
 
@@ -109,6 +126,14 @@ TEXTS = {
     "wrong/bad.vga": "frame\n\nfram\n",
     "wrong/good.vga": GOOD,
     "empty-folder/note.txt": "no script\n",
+    "scripts/list.txt": "first.vga\nwith/a.bin.vga\n",
+    "scripts/first.vga": ASKED_OF_MACHINES,
+    "scripts/with/a.bin.vga": "version 2\nrepeat 300\ninw 3CE\nend\nin 3C6\n",
+    "lacking/list.txt": "first.vga until 3\nsecond.vga\n",
+    "lacking/first.vga": GOOD,
+    "no digits.txt": "babab babab jijok kimid famid famug babab babab sasaz kinok litul murok\n",
+    "page.md": f"Before.\n\n{FIRST_MARK}\nold\n{LAST_MARK}\nBehind.\n",
+    "other.json": '{"command": "vga go {script}", "rules": []}',
     "t.trace": TRACE,
     "other.trace": TRACE.replace("07430743", "07440743"),
     "ports.trace": PORTS,
@@ -132,11 +157,69 @@ def _images() -> Iterator[tuple[str, bytes]]:
     yield "nine.ppm", ppm(9, 1, bytes(27))
     yield "near.ppm", ppm(9, 1, bytes(24) + bytes((1, 0, 1)))
     yield "twice.ppm", ppm(18, 2, bytes(108))
+    yield "dot.ppm", ppm(1, 1, bytes((63, 0, 21)))
+    yield "tall.ppm", ppm(2, 40, b"".join(shades[:80]))
+    yield "sixteen.ppm", ppm(16, 2, b"".join(shades[:16]) * 2)
+    yield "seventeen.ppm", ppm(17, 2, b"".join(shades[:17]) * 2)
+    yield "bright.ppm", b"P6 # a comment\n# 9 9\n4\n2 255\n" + bytes(range(11, 255, 10))[:24]
+    yield "cut.ppm", ppm(16, 12, b"".join(shades)[:-1])
+    yield "none.ppm", ppm(0, 3, b"")
+    yield "high.ppm", b"P6 1 1 1000\n" + bytes(6)
+    yield "text.ppm", b"P3 1 1 63\n0 0 0\n"
+    yield "two words.ppm", ppm(9, 1, bytes(27))
+
+
+def _pngs() -> Iterator[tuple[str, bytes]]:
+    """PNGs of each colour type, with what is transparent in them; and damaged ones."""
+    yield "grey.png", png(12, 2, b"\0\x5a\xf0\0\xa5\x00", 1, 0)
+    yield "key.png", png(4, 2, b"\0\x1b\0\xe4", 2, 0, clear=b"\0\2")
+    entries = bytes((255, 0, 0, 0, 255, 0, 0, 0, 255, 9, 99, 199))
+    yield "entries.png", png(4, 2, b"\0\x01\x23\0\x32\x10", 4, 3, entries, clear=b"\0\x80")
+    deep = bytes(range(0, 240, 5))
+    lines = b"".join(bytes([kind]) + deep[kind : kind + 24] for kind in range(5))
+    yield "deep.png", png(4, 5, lines, 16, 2, clear=deep[:6])
+    yield "clear.png", png(3, 2, b"\1" + deep[:12] + b"\4" + deep[9:21], 8, 6)
+    yield "faint.png", png(4, 2, b"\2" + deep[:8] + b"\3" + deep[9:17], 8, 4)
+    whole = png(2, 1, b"\0" + deep[:6])
+    yield "cut.png", whole[:-20]
+    yield "off.png", whole.replace(b"IDAT", b"IDAU")
+    yield "filter.png", png(2, 1, b"\5" + deep[:6])
+    yield "entry.png", png(2, 1, b"\0\0\4", 8, 3, entries)
+    yield "interlaced.png", png(2, 1, b"\0" + deep[:6], interlace=1)
+    yield "depth.png", png(2, 1, b"\0" + deep[:6], 3, 2)
+
+
+def _floppies() -> Iterator[tuple[str, bytes]]:
+    """What a machine leaves that has run one script, and what one has that has run two; images up
+    to the last answer."""
+    scripts = {name: TEXTS[f"scripts/{name}.vga"] for name in ("first", "with/a.bin")}
+    for name, given in (("ran", {"": scripts["first"]}), ("both", scripts)):
+        read = {one: script_of(text.encode(), one) for one, text in given.items()}
+        image = image_for(read, name)
+        machine = Machine(image)
+        end = ANSWERS + len(machine.answers)
+        yield f"{name}.img", machine.image[:end]
+        record = b"".join(machine.record)
+        yield f"{name}.record", b"noise\n" + record
+        yield f"{name}-cut.record", record[: record.rindex(b"\r\nA") + 20]
+        pages = [page.encode() + b"\n" for page in machine.pages]
+        yield f"{name}.pages", b"".join(pages)
+        for number, page in enumerate(pages):
+            yield f"{name} pages/{number}.txt", page
+        if name == "ran":
+            yield "new.img", image[:end]
+            yield "cut.img", machine.image[: end - 1]
+            yield "damaged.img", machine.image[: end - 1] + b"\xee"
+            yield "short.img", machine.image[:MARK]
+            yield "sum.record", record.replace(b"A 000000 AD", b"A 000000 AE")
+            yield "twice.record", record[:-30] + b"\n" + record
+            row = pages[1].splitlines(True)[1]
+            yield "mistyped.txt", pages[0] + row.upper() + row.replace(b"b", b"d", 1)
 
 
 @lru_cache(None)
-def given_files() -> dict[str, bytes]:
-    """The files that the commands read, by their names. What they run is compiled before."""
+def _shared_files() -> dict[str, bytes]:
+    """The files that all commands find, by their names. What they run is compiled before."""
     compile_library()
     with contextlib.redirect_stderr(io.StringIO()):
         program = found_program()
@@ -158,6 +241,16 @@ def given_files() -> dict[str, bytes]:
     files["dac.json"] = elements
     files["off.json"] = elements.replace(b'"answer":21', b'"answer":20', 1)
     return {**files, **dict(_images())}
+
+
+# More files, for the commands of some tools.
+OWN = {"vga-picture": _pngs, "vga-floppy": _floppies}
+
+
+@lru_cache(None)
+def given_files(tool: str) -> dict[str, bytes]:
+    """The files that the commands of a tool find, by their names."""
+    return {**_shared_files(), **dict(OWN[tool]() if tool in OWN else ())}
 
 
 def _chunks(data: bytes) -> Iterable[bytes]:
@@ -226,7 +319,7 @@ def answer(line: str) -> Answer:
     name, *words = shlex.split(command)
     with tempfile.TemporaryDirectory() as made:
         folder = Path(made)
-        before = given_files()
+        before = given_files(name)
         _lay(folder, before)
         read = before[given] if given else b""
         status, output, said = run_tool(name, *words, given=read, prepare=lambda: os.chdir(folder))

@@ -42,3 +42,7 @@ class Answers(unittest.TestCase):
 
     def test_steps(self) -> None:
         self.hold_to_record("vga-steps ")
+
+    def test_what_makes_and_tests_them(self) -> None:
+        for tool in ("fuzz", "library", "release", "page", "emulators", "bindings", "machine"):
+            self.hold_to_record(f"vga-{tool}")
