@@ -147,8 +147,9 @@ class Made(Folder):
         kept = making.keep("llvm", X86_64, making.LibraryParts(*self.parts))
         self.assertEqual([path.read_text() for path in kept], ["one.a", "two.a"])
         self.assertIsNone(making.kept("rattle", X86_64))
-        # Another source, another archive, and one source more.
-        for path in (self.low, kept.crates, self.low.with_name("more.rt")):
+        # Another source, another archive, one source more, and crates that use others.
+        more, used = self.low.with_name("more.rt"), self.folder / "crates.txt"
+        for path in (self.low, kept.crates, more, used):
             self.assertEqual(making.kept("llvm", X86_64), kept)
             before = path.read_text() if path.exists() else None
             path.write_text("changed")
