@@ -137,6 +137,18 @@ class Tables(Folder):
             ),
         )
 
+    def test_a_bar_ends_no_cell(self) -> None:
+        wrong = case("a/1", "differs", 1, differing=1, answered="5|6", expected="|")
+        one = self.results("one", "--on qemu", rule("This | that.", wrong))
+        self.assertEqual(self.table(one), (0, "", ""))
+        row = "\n| This \\| that. | `a/1` | 5\\|6, not \\| |\n"
+        self.assertIn(row, self.page.read_text("utf-8"))
+
+    def test_a_command_that_is_no_text(self) -> None:
+        for command in (5, None, ["--on qemu"]):
+            other = self.write("two", json.dumps({"command": command, "rules": []}))
+            hold_undone(self, self.table(other), f"^vga-emulators: {other}: it isn't what `vga-rep")
+
     def test_a_page_is_a_file(self) -> None:
         one = self.results("one", "--on qemu", rule("R.", case("a/1", "agrees", 1)))
         done = call(main_of("vga-emulators"), "table", "-", one)
