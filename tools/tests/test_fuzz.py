@@ -213,6 +213,12 @@ class Fuzzing(Folder):
         path = self.program_that(full + " sys.exit('vga: F9 WriteFault')")
         self.assertEqual(self.fed(long, path), "F9 WriteFault")
 
+    def test_a_fault_ends_a_run_with_status_1(self) -> None:
+        for status in (0, 2):
+            fed = Fed(status, b"", "vga: F7 BadLine(1)\n")
+            with self.assertRaisesRegex(Wrong, f"^status {status}, and it says 'vga: F7 BadLine"):
+                check(fed, None)
+
     def test_reports_that_change(self) -> None:
         seen = self.folder / "seen"
         wrong = f"print('1 54' if os.path.exists('{seen}') else '1 55'); open('{seen}', 'w')"
@@ -262,6 +268,8 @@ class Fuzzing(Folder):
             " wrong"
         )
         self.assertEqual(command._figures(made, answers, 1, 2), figures)
+        figures = "seed 9: 0 inputs in 0 seconds\n0 with something wrong"
+        self.assertEqual(command._figures(Counter(), Counter(), 9, 0), figures)
 
     def test_inputs_are_kept_with_which_something_is_wrong(self) -> None:
         keep = self.folder / "kept"

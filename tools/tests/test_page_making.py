@@ -20,7 +20,18 @@ from zaklimot_tools.dev.page.making import check_module, kit_of, with_kit
 from zaklimot_tools.dev.page.packing import in_base64, packed, unzipped
 
 from .test_page import FRAME, NATIVE, Modules, module_of
-from .tools import Folder, call, hold, hold_refused, main_of, patched, refused, run_tool
+from .tools import (
+    EXAMPLES,
+    Folder,
+    call,
+    hold,
+    hold_refused,
+    hold_undone,
+    main_of,
+    patched,
+    refused,
+    run_tool,
+)
 
 ARCHIVE = "libx86emu_3.5.orig.tar.gz"
 RIGHT = module_of(Modules.right)
@@ -340,6 +351,14 @@ class Forms(Folder):
         self.assertEqual(
             refused(check_module, none), "the module: its memory is not one of 32-bit addresses"
         )
+
+    def test_no_source_of_the_page_is_written(self) -> None:
+        # This is told before the module is looked at, which is none.
+        module = self.write("module", "none")
+        sources = [page.SOURCES / "index.html", next(EXAMPLES.glob("*.vga"))]
+        for path in (*sources, *(next(page.SOURCES.rglob(f"*.{end}")) for end in ("js", "css"))):
+            done = run_tool("vga-page", "make", path, "--module", module)
+            hold_undone(self, done, f"^vga-page: {path}: it is read as {path}, so it isn't written")
 
     def test_a_module_alone(self) -> None:
         asked: list[Any] = []
