@@ -213,6 +213,12 @@ class Fuzzing(Folder):
         path = self.program_that(full + " sys.exit('vga: F9 WriteFault')")
         self.assertEqual(self.fed(long, path), "F9 WriteFault")
 
+    def test_writes_of_any_command_fail_where_their_room_is_full(self) -> None:
+        for script in (None, Script((Step("in", (0x3DA,)),))):
+            check(Fed(1, b"1 5", "vga: F9 WriteFault\n", True), script)
+            with self.assertRaisesRegex(Wrong, "^F9 WriteFault, and each write was taken$"):
+                check(Fed(1, b"", "vga: F9 WriteFault\n"), script)
+
     def test_a_fault_ends_a_run_with_status_1(self) -> None:
         for status in (0, 2):
             fed = Fed(status, b"", "vga: F7 BadLine(1)\n")
