@@ -404,6 +404,11 @@ class Making(unittest.TestCase):
         self.assertEqual(len({given.made for given in made}), 8)
         self.assertGreater(len({given.data for given in made}), 250)
 
+    def test_inputs_are_cut(self) -> None:
+        long = [b"in 3DA\n" * 20_000]
+        lengths = {len(make(Random(seed), long, long).data) for seed in range(30)}
+        self.assertEqual(max(lengths), 1 << 16)
+
     def test_each_step_and_too_many_of_them_are_made(self) -> None:
         steps = [step(Random(number)) for number in range(4000)]
         self.assertEqual({one.name for one in steps}, set(FORMS))
