@@ -68,9 +68,7 @@ static void w2c_f{number}({INSTANCE}* instance) {{
   FUNC_EPILOGUE;
 }}
 """
-    for number, body in enumerate(
-        (*["UNREACHABLE"] * 3, "w2c_f2(instance)", "w2c_f5(instance)"), 2
-    )
+    for number, body in enumerate((*["UNREACHABLE"] * 3, "w2c_f2(instance)", "w2c_f5(instance)"), 2)
 )
 WRITTEN = f"""\
 static u32 w2c_f0({INSTANCE}*, u32);
