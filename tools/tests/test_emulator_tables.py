@@ -102,6 +102,8 @@ class Tables(Folder):
             one = self.results("one", "--on dosbox", rule(name, case("a/1", "skipped")))
             self.assertEqual(self.table(two, one)[0], 0)
             self.assertEqual(self.rows()[-1], ["Only.", "`a/1`", "5, not 6", "not compared"])
+            self.assertEqual(self.table(one, two)[0], 0)
+            self.assertEqual(self.rows()[-1], ["Only.", "`a/1`", "not compared", "5, not 6"])
 
     def test_a_rule_of_two_folders(self) -> None:
         rules = [

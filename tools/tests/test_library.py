@@ -124,6 +124,7 @@ class Made(Folder):
         super().setUp()
         self.low = Path(self.write("crates/low/src/lib.rt", "low"))
         self.write("crates/vga_c/src/lib.rt", "vga_c")
+        self.spec = Path(self.write("crates/vga_c/specs/Call.antt", "spec"))
         self.write("crates.txt", "vga_c: low\n")
         self.parts = [Path(self.write(name, name)) for name in ("one.a", "two.a")]
         folder = self.folder / "crates" / "vga_c" / "out" / "made"
@@ -149,7 +150,7 @@ class Made(Folder):
         self.assertIsNone(making.kept("rattle", X86_64))
         # Another source, another archive, one source more, and crates that use others.
         more, used = self.low.with_name("more.rt"), self.folder / "crates.txt"
-        for path in (self.low, kept.crates, more, used):
+        for path in (self.low, self.spec, kept.crates, more, used):
             self.assertEqual(making.kept("llvm", X86_64), kept)
             before = path.read_text() if path.exists() else None
             path.write_text("changed")

@@ -75,6 +75,7 @@ static u32 w2c_f0({INSTANCE}*, u32);
 
 static void init_globals({INSTANCE}* instance) {{
   instance->w2c_g0 = 1048576ull;
+  instance->w2c_g1 = 5u;
   instance->w2c___heap_base = 1049840ull;
 }}
 
@@ -119,6 +120,8 @@ class Made(unittest.TestCase):
             "#define HEAP_BASE 1049840u\n",
             "static const u8 d0[] = {\n  0x01, 0x02,\n  0x03,\n};\n",
             "    memcpy(self->memory + 1048598u, d0, 3);\n    self->g0 = 1048576ull;\n",
+            "    self->g1 = 5u;\n}\n",
+            "#define MODULE_GLOBALS u64 g0; u32 g1;\n",
         ):
             self.assertIn(part, made)
 

@@ -12,6 +12,7 @@ from pathlib import Path
 from typing import Any, Optional
 from unittest import mock
 
+from zaklimot_tools.core.processes import Done
 from zaklimot_tools.core.progress import Progress
 from zaklimot_tools.core.trouble import Wrong
 from zaklimot_tools.dev.page import command, editor, machine, making, page, sections
@@ -482,6 +483,15 @@ class Blocks(Folder):
             self.assertEqual(unzipped(whole), b"data")
             told = refused(unzipped, in_base64(packed(b"data!")))
         self.assertEqual(told, "the page: a part of it unpacks to more than 4 bytes")
+
+    def test_what_warns_of_the_editor_ends_the_work(self) -> None:
+        for said in (b"", b"a warning\n"):
+            done = Done(0, b"made", said)
+            with mock.patch.object(editor, "ended_well", lambda *_, **__: done):
+                if said:
+                    self.assertRegex(refused(editor._minified, "x"), "^esbuild: .*a warning$")
+                else:
+                    self.assertEqual(editor._minified("x"), "made")
 
     def test_who_holds_the_copyright_of_the_editor(self) -> None:
         text = (
