@@ -139,6 +139,15 @@ class Tables(Folder):
             ),
         )
 
+    def test_what_stands_behind_the_first_end_stays(self) -> None:
+        end = f"{LAST_MARK}\nHere `table` writes: {LAST_MARK}\n"
+        self.page.write_text(f"{FIRST_MARK}\nold\n{end}")
+        one = self.results("one", "--on qemu", rule("R.", case("a/1", "agrees", 1)))
+        for _ in range(2):
+            self.assertEqual(self.table(one), (0, "", ""))
+            text = self.page.read_text()
+            self.assertTrue(text.endswith(f"|---|---|---|\n\n{end}"), text)
+
     def test_a_bar_ends_no_cell(self) -> None:
         wrong = case("a/1", "differs", 1, differing=1, answered="5|6", expected="|")
         one = self.results("one", "--on qemu", rule("This | that.", wrong))

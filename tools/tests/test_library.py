@@ -98,6 +98,13 @@ class Making(unittest.TestCase):
         ):
             self.assertIn(part, text)
 
+    def test_the_compiler_that_is_named(self) -> None:
+        # An empty name is none, and another processor has its own compiler.
+        for name, wanted in (("", "cc"), ("clang", "clang")):
+            with mock.patch.dict(os.environ, CC=name):
+                self.assertEqual(X86_64.compiler(), wanted)
+                self.assertEqual(AARCH64.compiler(), "aarch64-linux-gnu-gcc")
+
     def test_crates_below_stand_lowest_first(self) -> None:
         below = crates.below("vga_c")
         for place, name in enumerate(below):

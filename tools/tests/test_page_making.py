@@ -484,6 +484,14 @@ class Blocks(Folder):
             told = refused(unzipped, in_base64(packed(b"data!")))
         self.assertEqual(told, "the page: a part of it unpacks to more than 4 bytes")
 
+    def test_a_heading_stands_between_what_touches_it(self) -> None:
+        wanted = [["p", ["One."]], ["h", ["Two"]], ["p", ["Three."]]]
+        self.assertEqual(sections.blocks("One.\n## Two\nThree.\n"), wanted)
+
+    def test_a_page_that_has_a_part_of_the_editor(self) -> None:
+        told = refused(page.editor_in, "<style>\na {}\n</style>\n")
+        self.assertEqual(told, "zaklimot.html: it has no editor")
+
     def test_what_warns_of_the_editor_ends_the_work(self) -> None:
         for said in (b"", b"a warning\n"):
             done = Done(0, b"made", said)
