@@ -482,6 +482,11 @@ class Texts(Folder):
         text = "babab babab\nbabab babab badab\nno words at all\nbabab, babab babab\n"
         pages.add(text, "it")
         self.assertEqual((pages.count, pages.damaged), (0, ["it:2"]))
+        # Those of all files are told.
+        other = rows.Pages()
+        other.add(text, "other")
+        pages.join(other)
+        self.assertEqual(pages.damaged, ["it:2", "other:2"])
 
 
 @unittest.skipIf(BOTH is None, "no Python has numpy and Pillow: install python3-numpy, python3-pil")
