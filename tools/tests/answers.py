@@ -26,13 +26,13 @@ from functools import lru_cache
 from pathlib import Path
 from typing import Callable, Iterable, Iterator, Mapping, Union
 
+from zaklimot_tools.dev.emulators.table_page import FIRST_MARK, LAST_MARK
 from zaklimot_tools.script.program import found_program
 from zaklimot_tools.script.words import FONTS
 
-from . import answer_texts
-from .answered import element_files, made_files, trace_files
+from . import answered_images, answered_scripts, answered_traces
 from .stepping import compile_library
-from .tools import EXAMPLES, TOP, ended, ppm, run_tool
+from .tools import EXAMPLES, TOP, ended, run_tool
 
 FILE = Path(__file__).with_suffix(".json")
 ASKED = Path(__file__).with_name("answers.txt")
@@ -117,12 +117,15 @@ TEXTS = {
     "wrong/bad.vga": "frame\n\nfram\n",
     "wrong/good.vga": GOOD,
     "empty-folder/note.txt": "no script\n",
+    "page.md": f"Before.\n\n{FIRST_MARK}\nold\n{LAST_MARK}\nBehind.\n",
+    "other.json": '{"command": "vga go {script}", "rules": []}',
     "t.trace": TRACE,
     "other.trace": TRACE.replace("07430743", "07440743"),
     "ports.trace": PORTS,
     "bad.trace": "0 w p 3C2 67 1\n0 w p 3C2 67\n",
     "no.trace": "; nothing\n",
-    **answer_texts.TEXTS,
+    **answered_scripts.TEXTS,
+    **answered_images.TEXTS,
 }
 
 
@@ -132,58 +135,69 @@ def _lay(folder: Path, files: Files) -> None:
         (folder / name).write_bytes(data)
 
 
-def _images() -> Iterator[tuple[str, bytes]]:
-    shades = [bytes((x * 4, y * 5, 63 - x)) for y in range(12) for x in range(16)]
-    yield "shades.ppm", ppm(16, 12, b"".join(shades))
-    yield "two.ppm", ppm(16, 12, (shades[0] * 5 + shades[99] * 3) * 24)
-    yield "plain.ppm", ppm(320, 200, bytes((63, 21, 0)) * 64000)
-    yield "wide.ppm", ppm(8, 2, b"".join(shades[:16]))
-    yield "nine.ppm", ppm(9, 1, bytes(27))
-    yield "near.ppm", ppm(9, 1, bytes(24) + bytes((1, 0, 1)))
-    yield "twice.ppm", ppm(18, 2, bytes(108))
+def _answered(folder: Path, program: str | Path) -> Iterator[tuple[str, bytes]]:
+    """Scripts as bytes, and their reports, of those in a folder."""
+    run_tool("vga-trace", "convert", folder / "t.trace", folder / "t.vga", "--text")
+    for name in ("s", "good", "repeated", "t"):
+        script = folder / f"{name}.bin"
+        ended(program, "asm", folder / f"{name}.vga", script)
+        report = ended(program, "run", script, "--fonts", FONTS, text=False)[1]
+        yield f"{name}.vga", (folder / f"{name}.vga").read_bytes()
+        yield f"{name}.bin", script.read_bytes()
+        yield f"{name}.txt", report
+        if name == "good":
+            yield "other.txt", report.replace(b"2 03", b"2 01")
+            yield "longer.txt", report + b"5 ok\n"
+            yield "cut.txt", report[:-5]
+            wider = answered_scripts.TEXTS["wider.txt"].encode()
+            yield "both.txt", report + b"5 " + wider.partition(b"\n4 ")[2]
+        if name == "repeated":
+            yield from answered_scripts.odd_scripts(script.read_bytes())
 
 
-def _odd_scripts(script: bytes) -> dict[str, bytes]:
-    """Scripts of bytes that end early or begin late, and those that are no text."""
-    return {
-        "cut.bin": script[:-6],
-        "zero.bin": b"",
-        "three.bin": b"VGA",
-        "four.bin": b"VGAS",
-        "repeats.bin": b"VGAS\2\x0d\3\0\x03\xcc\3\x0e\x0b",
-        "bytes.vga": b"VGAS\1\x0b",
-        "latin.vga": "in 3CC ; = 01 ; Gr\u00fc\u00dfe\nin 3CC ; \u00fc\n".encode("latin-1"),
-    }
+def _elements() -> Iterator[tuple[str, bytes]]:
+    elements = gzip.decompress((EXAMPLES / "steps" / "dac-reads.json.gz").read_bytes())
+    yield "dac.json", elements
+    yield "off.json", elements.replace(b'"answer":21', b'"answer":20', 1)
+    yield from answered_traces.element_files(elements)
 
 
 @lru_cache(None)
-def given_files() -> dict[str, bytes]:
-    """The files that the commands read, by their names. What they run is compiled before."""
+def _all_files() -> dict[str, bytes]:
+    """The files of all commands but those of some tools alone. What they run is compiled before."""
     compile_library()
     with contextlib.redirect_stderr(io.StringIO()):
         program = found_program()
+    files = {name: text.encode() for name, text in TEXTS.items()}
+    files.update(answered_traces.trace_files(TRACE.encode()))
+    files.update(_elements())
+    files.update(answered_images.image_files())
     with tempfile.TemporaryDirectory() as made:
         folder = Path(made)
-        _lay(folder, {name: text.encode() for name, text in TEXTS.items()})
-        _lay(folder, dict(trace_files(TRACE.encode())))
-        run_tool("vga-trace", "convert", folder / "t.trace", folder / "t.vga", "--text")
-        for name in ("s", "good", "repeated", "t"):
-            script = f"{name}.bin"
-            ended(program, "asm", f"{name}.vga", script, cwd=folder)
-            words = (program, "run", script, "--fonts", FONTS)
-            (folder / f"{name}.txt").write_bytes(ended(*words, cwd=folder, text=False)[1])
-        elements = gzip.decompress((EXAMPLES / "steps" / "dac-reads.json.gz").read_bytes())
-        _lay(folder, {"dac.json": elements, **dict(element_files(elements))})
-        given = _files(folder)
-        files = {**given, **dict(made_files(folder, program, FONTS))}
-    report = files["good.txt"]
-    files["other.txt"] = report.replace(b"2 03", b"2 01")
-    files["longer.txt"] = report + b"5 ok\n"
-    files["cut.txt"] = report[:-5]
-    files.update(_odd_scripts(files["repeated.bin"]))
-    files["both.txt"] = report + b"5 " + files["wider.txt"].partition(b"\n4 ")[2]
-    files["off.json"] = elements.replace(b'"answer":21', b'"answer":20', 1)
-    return {**files, **dict(_images())}
+        _lay(folder, files)
+        files.update(_answered(folder, program))
+        files.update(answered_traces.made_files(folder, program, FONTS))
+    return files
+
+
+# Commands that read lists of cases.
+OF_CASES = ("vga-report suite ", "vga-report scripts ", "vga-report expected ")
+# More files, for the commands of some tools.
+OWN = {"vga-picture": answered_images.png_files, "vga-floppy": answered_images.floppy_files}
+
+
+@lru_cache(None)
+def given_files(tool: str) -> dict[str, bytes]:
+    """The files that the commands of a tool find, by their names."""
+    return {**_all_files(), **dict(OWN[tool]() if tool in OWN else ())}
+
+
+def _named_files(line: str) -> Iterator[tuple[str, bytes]]:
+    """The files that a command line may name, or whose folders. A list of cases names others."""
+    wants_all = line.startswith(OF_CASES)
+    for name, data in given_files(line.partition(" ")[0]).items():
+        if wants_all or name.partition("/")[0] in line:
+            yield name, data
 
 
 def _chunks(data: bytes) -> Iterable[bytes]:
@@ -246,8 +260,12 @@ def _files(folder: Path) -> dict[str, bytes]:
     return found
 
 
-def _as_told(files: Files) -> dict[str, str]:
-    return {name: _told(data) for name, data in files.items()}
+def _changes(folder: Path, before: Files, plain: Callable[[bytes], bytes]) -> dict[str, str]:
+    """What is in a folder that was not there before, or is another, and what is gone."""
+    after = _files(folder)
+    gone = {name: "is gone" for name in before.keys() - after.keys()}
+    others = {name: data for name, data in after.items() if before.get(name) != data}
+    return {**{name: _told(plain(data)) for name, data in others.items()}, **gone}
 
 
 def lines(tool: str = "") -> list[str]:
@@ -284,21 +302,19 @@ def answer(
     """
     with tempfile.TemporaryDirectory() as made:
         folder = Path(made)
-        before = {name: change(name, data) for name, data in given_files().items()}
+        before = {name: change(name, data) for name, data in _named_files(line)}
         _lay(folder, before)
         status, output, said = _done(folder, line, before, prepare)
-        after = _files(folder)
-        if is_twice and after != before:
+        after = _changes(folder, before, plain)
+        if is_twice and after:
             _done(folder, line, before, prepare)
-            assert _as_told(_files(folder)) == _as_told(after), f"other files again: {line}"
+            assert _changes(folder, before, plain) == after, f"other files another time: {line}"
     output, words = plain(output), plain(said.encode())
     for path, called in ((str(folder), b"FOLDER"), (str(TOP), b"TOP")):
         output = output.replace(path.encode(), called)
         words = words.replace(path.encode(), called)
     words = USAGE.sub(b"", words)
-    files = {name: plain(data) for name, data in after.items() if before.get(name) != data}
-    gone = {name: "is gone" for name in before.keys() - after.keys()}
-    return [status, _told(output), _told(words), {**_as_told(files), **gone}]
+    return [status, _told(output), _told(words), after]
 
 
 if __name__ == "__main__":

@@ -19,7 +19,7 @@ from zaklimot_tools.script.words import FONTS
 
 from .test_beside import BOTH
 from .test_picture import BLACK, WHITE, made_of, ppm_of
-from .tools import TOOLS, ended, hold
+from .tools import TOOLS, ended, hold, refused
 
 # Compares what numpy works out at once and in small parts.
 COMPARING = """
@@ -76,7 +76,10 @@ class Many(unittest.TestCase):
         dots = [
             [(chance.randrange(64), chance.randrange(64), y) for _ in range(80)] for y in range(64)
         ]
-        self.assertGreater(len({dot for row in dots for dot in row}), 4096)
+        count = len({dot for row in dots for dot in row})
+        self.assertGreater(count, 4096)
+        told = refused(indexed, dots, 16, Fewer.REFUSED, "i")
+        self.assertRegex(told, f"^i: it has {count:,} colours of six bits a component, and ")
         image = indexed(dots, 16, Fewer.NEAREST, "i")
         self.assertEqual(len(image.colours), 16)
         lost = sum(

@@ -102,6 +102,8 @@ class Tables(Folder):
             one = self.results("one", "--on dosbox", rule(name, case("a/1", "skipped")))
             self.assertEqual(self.table(two, one)[0], 0)
             self.assertEqual(self.rows()[-1], ["Only.", "`a/1`", "5, not 6", "not compared"])
+            self.assertEqual(self.table(one, two)[0], 0)
+            self.assertEqual(self.rows()[-1], ["Only.", "`a/1`", "not compared", "5, not 6"])
 
     def test_a_rule_of_two_folders(self) -> None:
         rules = [
@@ -136,6 +138,27 @@ class Tables(Folder):
                 ("", "1", ", not 1"),
             ),
         )
+
+    def test_what_stands_behind_the_first_end_stays(self) -> None:
+        end = f"{LAST_MARK}\nHere `table` writes: {LAST_MARK}\n"
+        self.page.write_text(f"{FIRST_MARK}\nold\n{end}")
+        one = self.results("one", "--on qemu", rule("R.", case("a/1", "agrees", 1)))
+        for _ in range(2):
+            self.assertEqual(self.table(one), (0, "", ""))
+            text = self.page.read_text()
+            self.assertTrue(text.endswith(f"|---|---|---|\n\n{end}"), text)
+
+    def test_a_bar_ends_no_cell(self) -> None:
+        wrong = case("a/1", "differs", 1, differing=1, answered="5|6", expected="|")
+        one = self.results("one", "--on qemu", rule("This | that.", wrong))
+        self.assertEqual(self.table(one), (0, "", ""))
+        row = "\n| This \\| that. | `a/1` | 5\\|6, not \\| |\n"
+        self.assertIn(row, self.page.read_text("utf-8"))
+
+    def test_a_command_that_is_no_text(self) -> None:
+        for command in (5, None, ["--on qemu"]):
+            other = self.write("two", json.dumps({"command": command, "rules": []}))
+            hold_undone(self, self.table(other), f"^vga-emulators: {other}: it isn't what `vga-rep")
 
     def test_a_page_is_a_file(self) -> None:
         one = self.results("one", "--on qemu", rule("R.", case("a/1", "agrees", 1)))

@@ -461,7 +461,14 @@ class Texts(Folder):
             self.assertEqual(refused(read_record, data, "it"), ended_otherwise)
 
     def test_rows_of_a_length_that_no_page_has(self) -> None:
-        for number, length, is_one in ((0, 22, True), (0, 24, False), (0x8001, 24, False)):
+        for number, length, is_one in (
+            (0, 22, True),
+            (0, 24, False),
+            (0x8001, 24, False),
+            (0xFFFF, 8, True),
+            (0xFFFF, 6, False),
+            (0xFFFF, 10, False),
+        ):
             pages = rows.Pages()
             told = "it:2: the row is none that a machine shows"
             text = f"\n{row(number, bytes(length))}\n"
@@ -475,6 +482,11 @@ class Texts(Folder):
         text = "babab babab\nbabab babab badab\nno words at all\nbabab, babab babab\n"
         pages.add(text, "it")
         self.assertEqual((pages.count, pages.damaged), (0, ["it:2"]))
+        # Those of all files are told.
+        other = rows.Pages()
+        other.add(text, "other")
+        pages.join(other)
+        self.assertEqual(pages.damaged, ["it:2", "other:2"])
 
 
 @unittest.skipIf(BOTH is None, "no Python has numpy and Pillow: install python3-numpy, python3-pil")

@@ -213,6 +213,18 @@ class Fuzzing(Folder):
         path = self.program_that(full + " sys.exit('vga: F9 WriteFault')")
         self.assertEqual(self.fed(long, path), "F9 WriteFault")
 
+    def test_writes_of_any_command_fail_where_their_room_is_full(self) -> None:
+        for script in (None, Script((Step("in", (0x3DA,)),))):
+            check(Fed(1, b"1 5", "vga: F9 WriteFault\n", True), script)
+            with self.assertRaisesRegex(Wrong, "^F9 WriteFault, and each write was taken$"):
+                check(Fed(1, b"", "vga: F9 WriteFault\n"), script)
+
+    def test_a_fault_ends_a_run_with_status_1(self) -> None:
+        for status in (0, 2):
+            fed = Fed(status, b"", "vga: F7 BadLine(1)\n")
+            with self.assertRaisesRegex(Wrong, f"^status {status}, and it says 'vga: F7 BadLine"):
+                check(fed, None)
+
     def test_reports_that_change(self) -> None:
         seen = self.folder / "seen"
         wrong = f"print('1 54' if os.path.exists('{seen}') else '1 55'); open('{seen}', 'w')"
@@ -262,6 +274,8 @@ class Fuzzing(Folder):
             " wrong"
         )
         self.assertEqual(command._figures(made, answers, 1, 2), figures)
+        figures = "seed 9: 0 inputs in 0 seconds\n0 with something wrong"
+        self.assertEqual(command._figures(Counter(), Counter(), 9, 0), figures)
 
     def test_inputs_are_kept_with_which_something_is_wrong(self) -> None:
         keep = self.folder / "kept"
@@ -389,6 +403,11 @@ class Making(unittest.TestCase):
         )
         self.assertEqual(len({given.made for given in made}), 8)
         self.assertGreater(len({given.data for given in made}), 250)
+
+    def test_inputs_are_cut(self) -> None:
+        long = [b"in 3DA\n" * 20_000]
+        lengths = {len(make(Random(seed), long, long).data) for seed in range(30)}
+        self.assertEqual(max(lengths), 1 << 16)
 
     def test_each_step_and_too_many_of_them_are_made(self) -> None:
         steps = [step(Random(number)) for number in range(4000)]

@@ -12,7 +12,7 @@ import zlib
 from dataclasses import replace
 
 from zaklimot.format import Picture
-from zaklimot_tools.images.holding import held
+from zaklimot_tools.images.holding import held, held_size
 from zaklimot_tools.images.png import Animation, ImageSize, Shape, block_lines
 from zaklimot_tools.images.reading import Image, image_of, size_of
 from zaklimot_tools.picture.asked import Fit
@@ -133,6 +133,16 @@ class Held(Folder):
                 (RED * 2 + WHITE, sizes(3)),
             ),
         )
+
+    def test_an_image_of_no_dots_has_another_size(self) -> None:
+        picture = Picture.of_dots(2, 1, BLACK * 2)
+        for width, height in ((0, 1), (2, 0), (0, 0)):
+            told = held_size(picture, width, height)
+            assert told is not None
+            self.assertEqual(
+                (told.differing, told.how.partition(" dots,")[0]),
+                (None, f"they have 2x1 and {width}x{height}"),
+            )
 
     def test_a_dark_image_is_read_as_it_is_nearest(self) -> None:
         # Of eight bits a component, none of which goes past 63; and of which the first row alone

@@ -385,6 +385,8 @@ STRETCHED = (
     ),
 )
 # Images in other forms, and their rows.
+DRAWN_LINE = b"\0" + DRAWN_RED
+DRAWN_PACKED = zlib.compress(DRAWN_LINE)
 FORMS_OF_PNG = (
     (png(2, 1, b"\0" + DRAWN_RED + DRAWN_FULL), [DRAWN_RED + DRAWN_FULL]),
     (
@@ -431,6 +433,15 @@ FORMS_OF_PNG = (
     ),
     (b"P6 # a\n1\t1\n255\n\x01\x02\x03", [b"\x01\x02\x03"]),
     (b"P6\n1 1\n63\n\x3f\x02\x03and more", [b"\x3f\x02\x03"]),
+    # What is packed may stand in several chunks, and anything behind the last.
+    (
+        png(1, 1, DRAWN_LINE).replace(
+            chunk(b"IDAT", DRAWN_PACKED),
+            b"".join(chunk(b"IDAT", part) for part in (DRAWN_PACKED[:3], b"", DRAWN_PACKED[3:])),
+        )
+        + b"more",
+        [DRAWN_RED],
+    ),
 )
 
 

@@ -139,9 +139,9 @@ class Installing(Folder):
         self.assertEqual(self.install("--destdir", "")[0], 0)
 
     def test_a_file_in_the_place_of_a_folder_is_told_before_any_work(self) -> None:
-        for name in ("include", "lib", "share"):
+        for name, *words in (("include",), ("lib",), ("share",), ("own", "--libdir", "own")):
             place = Path(self.write(f"other-{name}/{name}", "file"))
-            done = self.install("--destdir", "", "--prefix", str(place.parent))
+            done = self.install("--destdir", "", "--prefix", str(place.parent), *words)
             hold_undone(self, done, f"^vga-library: {place}: it is not a folder\n$")
             self.assertEqual(list(place.parent.iterdir()), [place])
         self.assertFalse((self.folder / "notes").exists())

@@ -98,6 +98,13 @@ class Making(unittest.TestCase):
         ):
             self.assertIn(part, text)
 
+    def test_the_compiler_that_is_named(self) -> None:
+        # An empty name is none, and another processor has its own compiler.
+        for name, wanted in (("", "cc"), ("clang", "clang")):
+            with mock.patch.dict(os.environ, CC=name):
+                self.assertEqual(X86_64.compiler(), wanted)
+                self.assertEqual(AARCH64.compiler(), "aarch64-linux-gnu-gcc")
+
     def test_crates_below_stand_lowest_first(self) -> None:
         below = crates.below("vga_c")
         for place, name in enumerate(below):
@@ -124,6 +131,7 @@ class Made(Folder):
         super().setUp()
         self.low = Path(self.write("crates/low/src/lib.rt", "low"))
         self.write("crates/vga_c/src/lib.rt", "vga_c")
+        self.spec = Path(self.write("crates/vga_c/specs/Call.antt", "spec"))
         self.write("crates.txt", "vga_c: low\n")
         self.parts = [Path(self.write(name, name)) for name in ("one.a", "two.a")]
         folder = self.folder / "crates" / "vga_c" / "out" / "made"
@@ -147,8 +155,9 @@ class Made(Folder):
         kept = making.keep("llvm", X86_64, making.LibraryParts(*self.parts))
         self.assertEqual([path.read_text() for path in kept], ["one.a", "two.a"])
         self.assertIsNone(making.kept("rattle", X86_64))
-        # Another source, another archive, and one source more.
-        for path in (self.low, kept.crates, self.low.with_name("more.rt")):
+        # Another source, another archive, one source more, and crates that use others.
+        more, used = self.low.with_name("more.rt"), self.folder / "crates.txt"
+        for path in (self.low, self.spec, kept.crates, more, used):
             self.assertEqual(making.kept("llvm", X86_64), kept)
             before = path.read_text() if path.exists() else None
             path.write_text("changed")

@@ -59,21 +59,34 @@ static u32 w2c_zak_version({INSTANCE}* instance) {{
   return w2c_i0;
 }}
 """
+# Three that trap, one that calls the first of them, and one that calls this.
+TRAPPING = "".join(
+    f"""
+static void w2c_f{number}({INSTANCE}* instance) {{
+  FUNC_PROLOGUE;
+  {body};
+  FUNC_EPILOGUE;
+}}
+"""
+    for number, body in enumerate((*["UNREACHABLE"] * 3, "w2c_f2(instance)", "w2c_f5(instance)"), 2)
+)
 WRITTEN = f"""\
 static u32 w2c_f0({INSTANCE}*, u32);
 
 static void init_globals({INSTANCE}* instance) {{
   instance->w2c_g0 = 1048576ull;
+  instance->w2c_g1 = 5u;
   instance->w2c___heap_base = 1049840ull;
 }}
 
 static const u8 data_segment_data_w2c_d0[] = {{
   0x01, 0x02,{" "}
+  0x03,{" "}
 }};
 
 static void init_memories({INSTANCE}* instance) {{
   wasm_rt_allocate_memory(&instance->w2c_memory, 17, 65536);
-  LOAD_DATA(instance->w2c_memory, 1048598u, data_segment_data_w2c_d0, 2);
+  LOAD_DATA(instance->w2c_memory, 1048598u, data_segment_data_w2c_d0, 3);
 }}
 
 {FUNCTIONS}
@@ -105,9 +118,17 @@ class Made(unittest.TestCase):
             "static u32 f0(module *, u32);\n",
             "#define FIRST_PAGES 17u\n",
             "#define HEAP_BASE 1049840u\n",
-            "    memcpy(self->memory + 1048598u, d0, 2);\n    self->g0 = 1048576ull;\n",
+            "static const u8 d0[] = {\n  0x01, 0x02,\n  0x03,\n};\n",
+            "    memcpy(self->memory + 1048598u, d0, 3);\n    self->g0 = 1048576ull;\n",
+            "    self->g1 = 5u;\n}\n",
+            "#define MODULE_GLOBALS u64 g0; u32 g1;\n",
         ):
             self.assertIn(part, made)
+
+    def test_a_trap_ends_all_that_lead_to_it(self) -> None:
+        made = one_file(WRITTEN.replace(FUNCTIONS, FUNCTIONS + TRAPPING))
+        for name in ("f2", "f5"):
+            self.assertIn(f"  {name}(self); if (NEVER(self->is_broken)) return;\n", made)
 
     def test_what_is_not_known_is_refused(self) -> None:
         hold_refused(
@@ -137,8 +158,8 @@ class Made(unittest.TestCase):
                     "its memory, globals or data are not as they are known",
                 ),
                 (
-                    "data_segment_data_w2c_d0, 2",
-                    "data_segment_data_w2c_d1, 2",
+                    "data_segment_data_w2c_d0, 3",
+                    "data_segment_data_w2c_d1, 3",
                     "not as they are known",
                 ),
                 (FUNCTIONS, "", "it has no functions"),

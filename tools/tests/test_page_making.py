@@ -12,6 +12,7 @@ from pathlib import Path
 from typing import Any, Optional
 from unittest import mock
 
+from zaklimot_tools.core.processes import Done
 from zaklimot_tools.core.progress import Progress
 from zaklimot_tools.core.trouble import Wrong
 from zaklimot_tools.dev.page import command, editor, machine, making, page, sections
@@ -20,7 +21,18 @@ from zaklimot_tools.dev.page.making import check_module, kit_of, with_kit
 from zaklimot_tools.dev.page.packing import in_base64, packed, unzipped
 
 from .test_page import FRAME, NATIVE, Modules, module_of
-from .tools import Folder, call, hold, hold_refused, main_of, patched, refused, run_tool
+from .tools import (
+    EXAMPLES,
+    Folder,
+    call,
+    hold,
+    hold_refused,
+    hold_undone,
+    main_of,
+    patched,
+    refused,
+    run_tool,
+)
 
 ARCHIVE = "libx86emu_3.5.orig.tar.gz"
 RIGHT = module_of(Modules.right)
@@ -341,6 +353,14 @@ class Forms(Folder):
             refused(check_module, none), "the module: its memory is not one of 32-bit addresses"
         )
 
+    def test_no_source_of_the_page_is_written(self) -> None:
+        # This is told before the module is looked at, which is none.
+        module = self.write("module", "none")
+        sources = [page.SOURCES / "index.html", next(EXAMPLES.glob("*.vga"))]
+        for path in (*sources, *(next(page.SOURCES.rglob(f"*.{end}")) for end in ("js", "css"))):
+            done = run_tool("vga-page", "make", path, "--module", module)
+            hold_undone(self, done, f"^vga-page: {path}: it is read as {path}, so it isn't written")
+
     def test_a_module_alone(self) -> None:
         asked: list[Any] = []
 
@@ -463,6 +483,23 @@ class Blocks(Folder):
             self.assertEqual(unzipped(whole), b"data")
             told = refused(unzipped, in_base64(packed(b"data!")))
         self.assertEqual(told, "the page: a part of it unpacks to more than 4 bytes")
+
+    def test_a_heading_stands_between_what_touches_it(self) -> None:
+        wanted = [["p", ["One."]], ["h", ["Two"]], ["p", ["Three."]]]
+        self.assertEqual(sections.blocks("One.\n## Two\nThree.\n"), wanted)
+
+    def test_a_page_that_has_a_part_of_the_editor(self) -> None:
+        told = refused(page.editor_in, "<style>\na {}\n</style>\n")
+        self.assertEqual(told, "zaklimot.html: it has no editor")
+
+    def test_what_warns_of_the_editor_ends_the_work(self) -> None:
+        for said in (b"", b"a warning\n"):
+            done = Done(0, b"made", said)
+            with mock.patch.object(editor, "ended_well", lambda *_, **__: done):
+                if said:
+                    self.assertRegex(refused(editor._minified, "x"), "^esbuild: .*a warning$")
+                else:
+                    self.assertEqual(editor._minified("x"), "made")
 
     def test_who_holds_the_copyright_of_the_editor(self) -> None:
         text = (

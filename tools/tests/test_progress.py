@@ -103,7 +103,7 @@ class Terminal(Folder):
 
     def setUp(self) -> None:
         super().setUp()
-        for name, data in given_files().items():
+        for name, data in given_files("").items():
             self.write(name, data)
         self.write("long.txt", report(*["ok"] * 20_000))
         self.write("end.txt", report(*["ok"] * 20_000, ppm(2, 1, RED + RED)))

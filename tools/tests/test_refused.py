@@ -282,6 +282,7 @@ BAD_IMAGES: tuple[tuple[Any, ...], ...] = (
     ("the PPM of 1x0 dots is damaged", b"P6\n1 0\n255\n123"),
     ("a PNG of this form can't be read: 0x1, depth 8, colour type 2", png(0, 1, b"\0")),
     ("a PNG of this form can't be read: 1x1, depth 3, colour type 2", png(1, 1, bytes(4), depth=3)),
+    ("the components go to 100; 63 and 255 can be read", b"P6\n1 1\n100\n123"),
     ("the components go to 1000; 63 and 255 can be read", b"P6\n1 1\n1000\n123456"),
     ("the components go to 65535; 63 and 255 can be read", b"P6\n1 1\n65535\n123456"),
     (

@@ -4,6 +4,7 @@ from __future__ import annotations
 
 import hashlib
 import io
+import os
 import tarfile
 from pathlib import Path
 from typing import Any, Optional
@@ -15,7 +16,7 @@ from zaklimot_tools.dev.release import command as release, stepping
 from zaklimot_tools.dev.release.command import Commit, Entry, File
 from zaklimot_tools.steps.library import NAMED
 
-from .tools import Folder, call, hold_undone, main_of, patched, refused
+from .tools import Folder, call, ended, hold_undone, main_of, patched, refused
 
 
 COMMIT = Commit("0123abcd", 1_700_000_000)
@@ -170,6 +171,17 @@ class Commits(Folder):
         told = {"status": b"", "log": b"0123abcd 1700000000\n"}
         with mock.patch.object(release, "_git", lambda command, *_: told[command]):
             self.assertEqual(release.clean_commit(), COMMIT)
+
+    def test_its_time_is_that_at_which_it_was_made(self) -> None:
+        # Its author may have written it long before. A file that is in no commit changes nothing.
+        dates = {"GIT_AUTHOR_DATE": "1600000000 +0100", "GIT_COMMITTER_DATE": "1700000000 +0200"}
+        words = ["-c", "user.name=a", "-c", "user.email=a@b"]
+        for work in (("init", "-q"), ("commit", "-q", "--allow-empty", "-m", "one")):
+            made = ended("git", "-C", self.folder, *words, *work, env={**os.environ, **dates})
+            self.assertEqual(made[0], 0, made)
+        self.write("new", "file")
+        with mock.patch.object(release, "TOP", self.folder):
+            self.assertEqual(release.clean_commit().time, 1_700_000_000)
 
     def test_programs_of_a_commit_stay_programs(self) -> None:
         with io.BytesIO() as stream:

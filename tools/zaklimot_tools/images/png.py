@@ -218,7 +218,7 @@ def _shrunk_row(picture: Picture, top: int, bottom: int, columns: int) -> list[l
 def block_lines(picture: Picture, columns: int) -> Iterator[str]:
     """The lines that show a picture, so many characters wide."""
     columns = max(2, min(columns, picture.width))
-    rows = max(2, round(columns / MONITOR) // 2 * 2)
+    rows = round(columns / MONITOR) // 2 * 2
     edges = [y * picture.height // rows for y in range(rows + 1)]
     for y in range(0, rows, 2):
         upper = _shrunk_row(picture, edges[y], edges[y + 1], columns)

@@ -382,7 +382,7 @@ def six_bits(image: Image, is_rounded: bool = False) -> list[list[Colour]]:
     """The dots of an image, six bits a component: of eight bits the six high ones; or the nearest
     six bits, which are no darker on the average."""
     shift = 0 if image.most == MOST else 2
-    table = bytes(value >> shift if value >> shift <= MOST else MOST for value in range(256))
+    table = bytes(value >> shift for value in range(256))
     if is_rounded and image.most != MOST:
         table = bytes((2 * MOST * value + 255) // 510 for value in range(256))
     rows = (row.translate(table) for row in image.rows)

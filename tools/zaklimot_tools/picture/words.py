@@ -24,6 +24,16 @@ def colour(word: str) -> bytes:
     return bytes.fromhex(digits)
 
 
+def dither(word: str) -> Fewer:
+    """Reads the name of a dither."""
+    for way in (Fewer.FLOYD, Fewer.ORDERED):
+        if word == way.value:
+            return way
+    raise argparse.ArgumentTypeError(
+        f"'{shown_front(word)}' is no dither: floyd and ordered are the two"
+    )
+
+
 def _add_sizes(parser: argparse.ArgumentParser) -> None:
     sizes = parser.add_mutually_exclusive_group()
     told = "stretches an image of another size"
@@ -47,8 +57,7 @@ def _add_colours(parser: argparse.ArgumentParser) -> None:
         "does the same, but mixes them: by Floyd and Steinberg, or by a pattern of four by four"
         " dots"
     )
-    dithers = [Fewer.FLOYD, Fewer.ORDERED]
-    add(colours, "--dither floyd|ordered", told, dest="fewer", type=Fewer, choices=dithers)
+    add(colours, "--dither floyd|ordered", told, dest="fewer", type=dither)
     parser.set_defaults(fewer=Fewer.REFUSED)
 
 

@@ -62,6 +62,7 @@ def _read(path: str) -> Results:
     try:
         found = json.loads(data)
         command = found["command"]
+        on, bios = ON.search(command), BIOS.search(command)
         cases = [
             CaseResult(
                 name=str(case["name"]),
@@ -78,8 +79,6 @@ def _read(path: str) -> Results:
         ]
     except (ValueError, KeyError, TypeError, AttributeError) as error:
         raise Trouble("it isn't what `vga-report suite --json` prints", name) from error
-    on = ON.search(command)
-    bios = BIOS.search(command)
     if on is None or on[1] not in MACHINES:
         raise Trouble("its command is no `vga-floppy run --on` of an emulator", name)
     return Results(on[1], MACHINES[on[1]].full_version(bios[1] if bios else None), cases)

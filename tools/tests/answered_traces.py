@@ -194,7 +194,7 @@ def made_files(folder: Path, program: str | Path, fonts: str | Path) -> Iterator
         words = (program, "run", folder / f"{name}.bin", "--fonts", fonts)
         (folder / "report").write_bytes(ended(*words, text=False)[1])
         # Without its pictures it is small.
-        yield f"{name}.txt", run_tool("vga-report", "text", folder / "report")[1]
+        yield f"{name}.report", run_tool("vga-report", "text", folder / "report")[1]
     run_tool("vga-trace", "keep", folder / "recorded", folder / "kept.zip")
     yield "kept.zip", (folder / "kept.zip").read_bytes()
     run_tool("vga-steps", "scripts", folder / "machine", folder / "dac.json")

@@ -2,6 +2,8 @@
 
 from __future__ import annotations
 
+from typing import Iterator
+
 # Each kind of expected answer, met.
 MET = """; All that is expected comes.
 in 3CC ; = *
@@ -303,3 +305,14 @@ TEXTS = {
     **{f"cases/{name}": text for name, text in CASES.items()},
     **{f"answered/{name}": text for name, text in ANSWERED.items()},
 }
+
+
+def odd_scripts(script: bytes) -> Iterator[tuple[str, bytes]]:
+    """Scripts of bytes that end early or begin late, and those that are no text."""
+    yield "cut.bin", script[:-6]
+    yield "zero.bin", b""
+    yield "three.bin", b"VGA"
+    yield "four.bin", b"VGAS"
+    yield "repeats.bin", b"VGAS\2\x0d\3\0\x03\xcc\3\x0e\x0b"
+    yield "bytes.vga", b"VGAS\1\x0b"
+    yield "latin.vga", "in 3CC ; = 01 ; Gr\u00fc\u00dfe\nin 3CC ; \u00fc\n".encode("latin-1")
