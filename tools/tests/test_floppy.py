@@ -615,7 +615,7 @@ class Runs(Folder):
         path = self.path_with(f"sleep 600 & echo $! > {told}")
         done = self.within(lambda seconds: self.run_on("--seconds", str(seconds), path=path), told)
         hold_undone(
-            self, done, r"^vga-floppy: dosbox: the script has not ended within \d+ seconds\n$"
+            self, done, r"^vga-floppy: dosbox: the script has not ended within \d+ seconds?\n$"
         )
         self.assert_ended(int(told.read_text()))
 

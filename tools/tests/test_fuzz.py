@@ -274,8 +274,8 @@ class Fuzzing(Folder):
             " wrong"
         )
         self.assertEqual(command._figures(made, answers, 1, 2), figures)
-        figures = "seed 9: 0 inputs in 0 seconds\n0 with something wrong"
-        self.assertEqual(command._figures(Counter(), Counter(), 9, 0), figures)
+        figures = "seed 9: 0 inputs in 1 second\n0 with something wrong"
+        self.assertEqual(command._figures(Counter(), Counter(), 9, 1.4), figures)
 
     def test_inputs_are_kept_with_which_something_is_wrong(self) -> None:
         keep = self.folder / "kept"

@@ -324,11 +324,11 @@ class Checking(Made):
             ("no-such-command", "no-such-command: No such file or directory$"),
             ("'", "the command ''': No closing quotation"),
             (" ", "the command is empty"),
-            (f"{slow}", "slow: it did not answer element 0 in 0.5 seconds$"),
+            (f"{slow}", "slow: it did not answer element 0 in 1 second$"),
             ("tr -d '\\n' < /dev/zero", "tr: its answer|tr: it ended"),
         ):
             with self.subTest(command):
-                done = steps("check", command, path, "--timeout", "0.5")
+                done = steps("check", command, path, "--timeout", "1")
                 self.assertEqual(done[:2], (2, ""))
                 self.assertRegex(done[2], said)
 

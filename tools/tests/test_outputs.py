@@ -11,7 +11,9 @@ import unittest
 from concurrent.futures import ThreadPoolExecutor
 from typing import Optional
 
-from .tools import BLACK, EXAMPLES, PROGRAM, RED, WHITE, Folder, ppm, run_tool, want_program
+from zaklimot_tools.core.streams import counted
+
+from .tools import BLACK, EXAMPLES, PROGRAM, RED, WHITE, Folder, hold, ppm, run_tool, want_program
 
 
 # Commands with the place of their output, their status, what is told beside a file, and what is
@@ -103,3 +105,17 @@ class Outputs(Folder):
                 self.assertEqual(done[0], status, words)
                 self.assertIn(told, done[2])
                 self.assertFalse((self.folder / path).exists())
+
+    def test_how_many_there_are(self) -> None:
+        hold(
+            self,
+            counted,
+            (
+                (0, "step", "0 steps"),
+                (1, "step", "1 step"),
+                (1234, "step", ",", "1,234 steps"),
+                (1.0, "second", "g", "1 second"),
+                (0.5, "second", "g", "0.5 seconds"),
+                (60.0, "second", "g", "60 seconds"),
+            ),
+        )

@@ -236,8 +236,9 @@ class JsonList:
         self._write("}")
 
 
-def counted(count: int, what: str, form: str = "") -> str:
-    """How many there are, as `1 step` and `2 steps`; the form is that of the number."""
+def counted(count: float, what: str, form: str = "") -> str:
+    """How many there are, as `1 step` and `2 steps`, or `1 second` and `0.5 seconds`; the form is
+    that of the number."""
     return f"{count:{form}} {what}{'s' * (count != 1)}"
 
 

@@ -268,7 +268,8 @@ def _wait_for(report: BinaryIO, shown: str, progress: Progress) -> None:
     begun = time.monotonic()
     while IS_POSIX and progress.is_wanted and not select.select([report], [], [], PAUSE)[0]:
         if progress.is_due():
-            progress.tell(f"{shown}: no answer yet after {time.monotonic() - begun:.0f} seconds")
+            passed = counted(round(time.monotonic() - begun), "second")
+            progress.tell(f"{shown}: no answer yet after {passed}")
 
 
 def listed(row: Row, is_wrong: bool, width: int, more: str = "", why: str = "") -> str:

@@ -9,6 +9,7 @@ from contextlib import contextmanager, suppress
 from typing import BinaryIO, Iterator, Optional, cast
 
 from zaklimot_tools.core.processes import command_words, end, started
+from zaklimot_tools.core.streams import counted
 from zaklimot_tools.core.trouble import Trouble
 
 from .parts import ANSWER, FINAL, REFUSED, Element
@@ -78,7 +79,7 @@ class AskedAdapter:
     def _reason(self, line: bytes, number: int) -> str:
         """Why no whole line came."""
         if self._is_late:
-            return f"it did not answer element {number} in {self._seconds:g} seconds"
+            return f"it did not answer element {number} in {counted(self._seconds, 'second', 'g')}"
         if len(line) >= MOST_LINE:
             return f"its answer to element {number} has {MOST_LINE:,} bytes or more"
         end(self._process, 1)

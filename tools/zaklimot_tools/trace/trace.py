@@ -231,9 +231,8 @@ class Trace:
         try:
             yield from self._cycles()
         except (EOFError, gzip.BadGzipFile, zlib.error) as error:
-            raise self.trouble(
-                f"its compressed bytes are damaged after this line: {error}"
-            ) from error
+            where = " after this line" if self.line else ""
+            raise self.trouble(f"its compressed bytes are damaged{where}: {error}") from error
         except OSError as error:
             raise self.trouble(error.strerror or str(error)) from error
         if self._is_plain is None:
@@ -306,7 +305,7 @@ class Trace:
 
     def trouble(self, reason: str) -> Trouble:
         """What ends the work at the line that was read last."""
-        return Trouble(reason, self.name, self.line)
+        return Trouble(reason, self.name, self.line or None)
 
     def _without_cycle(self, reason: str) -> Trouble:
         """What ends the work where no line has a cycle: the first that is no comment is named,

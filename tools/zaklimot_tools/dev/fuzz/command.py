@@ -13,7 +13,7 @@ from zaklimot.format import ScriptFault, encode, parse_text
 from zaklimot_tools import TOP
 from zaklimot_tools.core.processes import Limits
 from zaklimot_tools.core.progress import Progress
-from zaklimot_tools.core.streams import empty_folder, write_file
+from zaklimot_tools.core.streams import counted, empty_folder, write_file
 from zaklimot_tools.core.trouble import AGREED, DIFFERED, Trouble, Wrong
 from zaklimot_tools.core.words import MEBIBYTE
 from zaklimot_tools.script.program import found_program
@@ -68,9 +68,10 @@ def _figures(made: Counter[str], answers: Counter[str], seed: int, seconds: floa
     was wrong."""
     total = sum(made.values())
     counts = [*sorted(made.items()), *sorted(answers.items())]
+    passed = counted(round(seconds), "second", ",")
     return "\n".join(
         [
-            f"seed {seed}: {total:,} input{'s' * (total != 1)} in {seconds:,.0f} seconds",
+            f"seed {seed}: {counted(total, 'input', ',')} in {passed}",
             *(f"{count:9,} {name}" for name, count in counts),
             f"{answers[WRONG]:,} with something wrong",
         ]
