@@ -319,10 +319,12 @@ class Progresses(Folder):
         given = ["suite", f"cat {self.folder}/{{name}}.report", "--list", cases]
         words = parser().parse_args(given)
         suite._results(words, suite._chosen(words), self.progress)
-        wrong = zip("abcde", (0, 1, 2, 2, 3))
         wanted = [
-            f"{at} of 5 cases, {count} don't agree: {name}"
-            for at, (name, count) in enumerate(wrong, 1)
+            "1 of 5 cases, 0 don't agree: a",
+            "2 of 5 cases, 1 doesn't agree: b",
+            "3 of 5 cases, 2 don't agree: c",
+            "4 of 5 cases, 2 don't agree: d",
+            "5 of 5 cases, 3 don't agree: e",
         ]
         self.assertEqual(self.told(), wanted)
 
