@@ -163,11 +163,16 @@ def _elements() -> Iterator[tuple[str, bytes]]:
 
 
 @lru_cache(None)
+def _program() -> str:
+    """The program that the tools find. It is compiled where there is none."""
+    with contextlib.redirect_stderr(io.StringIO()):
+        return found_program()
+
+
+@lru_cache(None)
 def _all_files() -> dict[str, bytes]:
     """The files of all commands but those of some tools alone. What they run is compiled before."""
     compile_library()
-    with contextlib.redirect_stderr(io.StringIO()):
-        program = found_program()
     files = {name: text.encode() for name, text in TEXTS.items()}
     files.update(answered_traces.trace_files(TRACE.encode()))
     files.update(_elements())
@@ -175,8 +180,8 @@ def _all_files() -> dict[str, bytes]:
     with tempfile.TemporaryDirectory() as made:
         folder = Path(made)
         _lay(folder, files)
-        files.update(_answered(folder, program))
-        files.update(answered_traces.made_files(folder, program, FONTS))
+        files.update(_answered(folder, _program()))
+        files.update(answered_traces.made_files(folder, _program(), FONTS))
     return files
 
 
@@ -310,7 +315,8 @@ def answer(
             _done(folder, line, before, prepare)
             assert _changes(folder, before, plain) == after, f"other files another time: {line}"
     output, words = plain(output), plain(said.encode())
-    for path, called in ((str(folder), b"FOLDER"), (str(TOP), b"TOP")):
+    places = ((str(folder), b"FOLDER"), (_program(), b"PROGRAM"), (str(TOP), b"TOP"))
+    for path, called in places:
         output = output.replace(path.encode(), called)
         words = words.replace(path.encode(), called)
     words = USAGE.sub(b"", words)

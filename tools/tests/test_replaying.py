@@ -14,6 +14,7 @@ from unittest import mock
 
 from zaklimot.format import Picture
 from zaklimot_tools.images.reading import image_of
+from zaklimot_tools.script.words import FONTS
 from zaklimot_tools.trace import keeper as keeping, parts
 from zaklimot_tools.trace.beamed import Beamed
 from zaklimot_tools.trace.clocked import Clocked
@@ -429,9 +430,13 @@ class RealTime(Folder):
 
     def test_a_program_that_fails(self) -> None:
         trace = self.write("trace", BEGIN)
-        program = self.program("vga", "#!/bin/sh\necho oh >&2\nexit 3\n")
-        status, _, said = run("pictures", trace, self.folder / "pictures", "--vga", program)
-        self.assertEqual((status, said), (2, f"vga-trace: {program}: it ended with status 3: oh\n"))
+        for tried, told in (
+            ("", f"it runs no script with {FONTS}: oh"),
+            ('[ "$(cat "$2")" = "in 3CC" ] && echo "1 00" && exit', "it ended with status 3: oh"),
+        ):
+            program = self.program("vga", f"#!/bin/sh\n{tried}\necho oh >&2\nexit 3\n")
+            status, _, said = run("pictures", trace, self.folder / "pictures", "--vga", program)
+            self.assertEqual((status, said), (2, f"vga-trace: {program}: {told}\n"))
 
 
 class Keeping(Folder):

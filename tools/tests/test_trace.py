@@ -184,6 +184,16 @@ LACKING: tuple[tuple[bytes, list[str]], ...] = (
         [LACKING_SILENT.replace("3 on", "4 on")],
     ),
     (LACKING_CHAINED + b"- w p 3C4 0E04 2\n- w m A0000 1 1\n- w p 3C4 0604 2\n", []),
+    (
+        # A line that came before chain 4 comes again.
+        qemu("write 3c2 67 1")
+        + qemu("write b8000 41 1", "vga-lowmem")
+        + qemu("write 3c4 f02 2")
+        + qemu("write 3c4 e04 2")
+        + qemu("write b8000 41 1", "vga-lowmem")
+        + qemu("write 3c4 604 2"),
+        [],
+    ),
     (BEGIN + b"- w p 3C4 0702 2\n- w p 3C4 0E04 2\n", []),
     (
         qemu("write 3c2 67 1")

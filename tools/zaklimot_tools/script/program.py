@@ -190,6 +190,14 @@ def check_program_runs(program: str, fonts: str) -> None:
         raise Trouble(f"it runs no script with {fonts}: {told}", program)
 
 
+def tried_program(named: Optional[str], fonts: str) -> str:
+    """Where the program is, as `found_program` has it, once it has run a script with this font
+    file."""
+    program = found_program(named)
+    check_program_runs(program, fonts)
+    return program
+
+
 class Limited(Trouble):
     """A run without proofs that came to a limit; so many steps stand before its second picture, 0
     without one."""

@@ -15,7 +15,7 @@ from zaklimot_tools.core.streams import counted, reading, write_name, writing
 from zaklimot_tools.core.trouble import AGREED, DIFFERED, Trouble
 from zaklimot_tools.images.png import Animation, ImageSize, Shape, save_png
 from zaklimot_tools.report.report import Report
-from zaklimot_tools.script.program import check_program_runs, found_program
+from zaklimot_tools.script.program import tried_program
 
 from . import inpage
 from .asked import BEAM, CLOCK, KEEP, Deed
@@ -91,7 +91,7 @@ def make_pictures(words: argparse.Namespace, _: Progress) -> None:
     """Makes the pictures of a trace, in real time."""
     if words.video is not None:
         check_video(words.video)
-    program = found_program(words.vga)
+    program = tried_program(words.vga, words.fonts)
     shape = Shape(words.scale, words.aspect)
     found = _opened(words)
     if words.folder is not None:
@@ -173,9 +173,7 @@ def record_software(words: argparse.Namespace, progress: Progress) -> int:
 
 
 def _judging(words: argparse.Namespace, progress: Progress) -> Judging:
-    program = found_program(words.vga)
-    check_program_runs(program, words.fonts)
-    return Judging(program, words.fonts, progress)
+    return Judging(tried_program(words.vga, words.fonts), words.fonts, progress)
 
 
 def _judged_again(words: argparse.Namespace, folder: Path, progress: Progress) -> int:

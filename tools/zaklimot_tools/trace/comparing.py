@@ -16,7 +16,7 @@ from zaklimot_tools.explain.registers import Registers, bytes_written
 from zaklimot_tools.images.holding import told_dots
 from zaklimot_tools.images.png import Shape, save_png
 from zaklimot_tools.report.expecting import NAMES
-from zaklimot_tools.script.program import found_program
+from zaklimot_tools.script.program import tried_program
 
 from .moments import SECOND, Passed
 from .state import FRAMES
@@ -178,7 +178,7 @@ def compare_recordings(words: argparse.Namespace, progress: Progress) -> int:
     both = [Recording(path, words.still) for path in (words.one, words.other)]
     if STANDARD in (words.one, words.other):
         raise Trouble("each trace is read twice, which standard input can't be")
-    program = found_program(words.vga)
+    program = tried_program(words.vga, words.fonts)
     with ExitStack() as stack:
         are_alike = _compare_writes(both, stack)
     with ExitStack() as stack:

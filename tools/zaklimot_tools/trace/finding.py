@@ -12,7 +12,7 @@ from zaklimot_tools.core.trouble import AGREED, DIFFERED
 from zaklimot_tools.explain.banks import WINDOWS
 from zaklimot_tools.explain.raster import is_graphics
 from zaklimot_tools.explain.registers import Registers
-from zaklimot_tools.script.program import found_program
+from zaklimot_tools.script.program import tried_program
 
 from .cells import code_page, text_of
 from .moments import Steps
@@ -159,7 +159,7 @@ def find_text(words: argparse.Namespace, progress: Progress) -> int:
 def _all_found(words: argparse.Namespace, progress: Progress) -> Iterator[Found]:
     """Each place of the text that words name, screen by screen, and from the top to the bottom."""
     letters = code_page(words.code_page)
-    walk = Walk(found_program(words.vga), words.fonts, progress)
+    walk = Walk(tried_program(words.vga, words.fonts), words.fonts, progress)
     finder = Finder(words.text, words.any_case)
     with opened(words.trace) as trace:
         answers = walk.answers(Asking(Steps(trace)).items())

@@ -13,7 +13,7 @@ from zaklimot_tools.core.progress import Progress
 from zaklimot_tools.core.streams import counted, write_file, write_name
 from zaklimot_tools.core.trouble import Trouble
 from zaklimot_tools.images.png import Shape, save_png
-from zaklimot_tools.script.program import found_program
+from zaklimot_tools.script.program import tried_program
 
 from .asked import ANSI, HTML, PLAIN
 from .cells import ansi_lines, code_page, html_lines, plain_lines
@@ -46,7 +46,9 @@ class Seen:
     @cached_property
     def walk(self) -> Walk:
         """The program that goes through the trace."""
-        return Walk(found_program(self.words.vga), self.words.fonts, self.progress)
+        return Walk(
+            tried_program(self.words.vga, self.words.fonts), self.words.fonts, self.progress
+        )
 
     @cached_property
     def moment(self) -> Moment:
