@@ -41,8 +41,9 @@ MOST_SHOWN = 600
 # What a file and a folder permit that have just been made, and the mask of rights for that.
 MADE = (stat.S_IFREG | 0o644, stat.S_IFDIR | 0o755)
 MASK = 0o022
-# What is another time or on another machine: seconds in XML, and places of programs.
+# What is another one at another time or on another machine: seconds, and how well a file is packed.
 VARYING = (
+    (re.compile(r"\.zip: [0-9,]+ bytes"), ".zip: SIZE bytes"),
     (re.compile(r'\btime="[0-9.]+"'), 'time="SECONDS"'),
     (re.compile(r'"seconds": [0-9.]+'), '"seconds": SECONDS'),
 )
@@ -130,9 +131,13 @@ TEXTS = {
 
 
 def _lay(folder: Path, files: Files) -> None:
-    for name, data in files.items():
-        (folder / name).parent.mkdir(parents=True, exist_ok=True)
-        (folder / name).write_bytes(data)
+    before = os.umask(MASK)
+    try:
+        for name, data in files.items():
+            (folder / name).parent.mkdir(parents=True, exist_ok=True)
+            (folder / name).write_bytes(data)
+    finally:
+        os.umask(before)
 
 
 def _answered(folder: Path, program: str | Path) -> Iterator[tuple[str, bytes]]:

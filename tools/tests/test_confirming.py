@@ -110,10 +110,16 @@ class Runs(Folder):
         file = STEPS_EXAMPLES / "clock.json.gz"
         for words in ((file,), (file, file, "--jobs", 2)):
             done = steps("confirm", *words, "--first", 1, "--vga", program)
-            hold_undone(self, done, f"{program}: it ended with status 1: oh$")
+            hold_undone(self, done, f"{program}: it runs no script with {FONTS}: oh$")
 
     def test_what_is_no_font_file(self) -> None:
+        want_program()
         path = self.write("fonts", "no fonts")
+        file = STEPS_EXAMPLES / "clock.json.gz"
+        for more in ((), (file, "--jobs", 2)):
+            done = steps("confirm", file, *more, "--vga", PROGRAM, "--fonts", path)
+            told = f"{PROGRAM}: it runs no script with {path}: F1 FontSize\n$"
+            hold_undone(self, done, told)
         with runner(None, path) as library:
             told = refused(library.report, confirmed(next(examples("clock"))).script)
         self.assertEqual(told, f"{path}: it is no font file")

@@ -9,7 +9,7 @@ from zaklimot_tools.core.files import name_of
 from zaklimot_tools.core.progress import Progress
 from zaklimot_tools.core.streams import counted, write
 from zaklimot_tools.core.trouble import AGREED, DIFFERED, Trouble
-from zaklimot_tools.script.program import built_program
+from zaklimot_tools.script.program import built_program, check_program_runs
 
 from .children import in_children, is_shared
 from .comparing import differences
@@ -27,6 +27,8 @@ def confirm(words: argparse.Namespace, progress: Progress) -> int:
     """Runs the scripts of elements, and compares. Where no program is named or built, the library
     runs them, of the C file of which the portable program is made too."""
     program = built_program(words.vga)
+    if program is not None:
+        check_program_runs(program, words.fonts)
     if is_shared(words):
         return _in_children(words, program, progress)
     wrong = 0
