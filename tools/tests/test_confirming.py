@@ -68,6 +68,7 @@ class Runs(Folder):
         words = argparse.Namespace(vga=None, fonts=str(FONTS), first=1, jobs=1)
         words.file = [str(STEPS_EXAMPLES / f"{kind}.json.gz") for kind in ("clock", "sequencer")]
         asked = list[Any]()
+        tried = mock.Mock()
 
         def given(program: Optional[str], fonts: str) -> Any:
             asked.append((program, fonts))
@@ -80,12 +81,14 @@ class Runs(Folder):
         for built in ("built", None):
             with (
                 mock.patch.object(confirming, "built_program", return_value=built),
+                mock.patch.object(confirming, "check_program_runs", tried),
                 mock.patch.object(confirming, "runner", given),
                 mock.patch.object(confirming, "in_children", started),
                 mock.patch.object(confirming, "write"),
             ):
                 for words.jobs in (1, 2):
                     self.assertEqual(confirming.confirm(words, Progress(False)), 0)
+        self.assertEqual(tried.mock_calls, 2 * [mock.call("built", str(FONTS))])
         with_program: list[list[str]] = [["--vga", "built"], []]
         common = ["confirm", "--fonts", str(FONTS)]
         self.assertEqual(asked[0::2], [("built", str(FONTS)), (None, str(FONTS))])
