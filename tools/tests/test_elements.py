@@ -24,7 +24,7 @@ from zaklimot_tools.steps.reading import read_elements
 from zaklimot_tools.steps.scripts import reached
 
 from .stepping import GOOD, STEPS_EXAMPLES, steps
-from .tools import Folder, hold, hold_refused, hold_undone, refused, run_tool
+from .tools import TRIED, Folder, hold, hold_refused, hold_undone, refused, run_tool
 
 SEQUENCER = STEPS_EXAMPLES / "sequencer.json.gz"
 MASKS = STEPS_EXAMPLES / "dac-mask.json.gz"
@@ -216,7 +216,7 @@ class Confirming(Elements):
         hold_undone(self, done, told)
 
     def test_what_a_child_can_not_do_is_told_once(self) -> None:
-        program = self.program("other", "raise SystemExit('oh')")
+        program = self.program("other", f"{TRIED}echo oh >&2\nexit 1\n")
         done = steps("confirm", SEQUENCER, MASKS, "--jobs", 2, "--first", 1, "--vga", program)
         said = f"vga-steps: {program}: it ended with status 1: oh\n"
         self.assertEqual(done, (2, "", said))
@@ -228,6 +228,18 @@ class Confirming(Elements):
         # More than there are is all of them.
         done = steps("confirm", SEQUENCER, "--first", 21)
         self.assertEqual(done, (0, f"{SEQUENCER}: 20 elements, 0 differ\n", ""))
+
+    def test_of_those_that_differ_the_first_are_told_wherever_they_stand(self) -> None:
+        elements = list(read_elements(str(MASKS)))
+        wrong = [number for number, one in enumerate(elements) if "in" in one and number > 6]
+        for number in wrong:
+            elements[number]["answer"] ^= 1
+        path = self.elements("wrong.json", *elements)
+        status, output, _ = steps("confirm", path)
+        lines = output.splitlines()
+        told = [int(line.split("element ")[1].split(",")[0]) for line in lines[:-1]]
+        self.assertEqual((status, told), (1, wrong))
+        self.assertEqual(lines[-1], f"{path}: 20 elements, {len(wrong)} differ")
 
 
 class Making(Elements):

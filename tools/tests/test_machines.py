@@ -259,6 +259,22 @@ class Differences(Folder):
             ),
         )
 
+    def test_dots_may_be_colours_alone_or_entries_and_not_neither(self) -> None:
+        dots: Element = {**GOOD, "answer": {"colours": [1, 2], "entries": [-1, 3]}}
+        hold(
+            self,
+            lambda given: list(differences(dots, {"answer": given})),
+            (
+                ({"colours": [1, 2]}, []),
+                ({"entries": [-1, 3]}, []),
+                ({"colours": [1, 2], "entries": [-1, 4]}, ["answer entries 1: 4, not 3"]),
+                (
+                    {},
+                    ["answer colours: none, not [1, 2]", "answer entries: none, not [-1, 3]"],
+                ),
+            ),
+        )
+
     def test_places_come_in_any_order(self) -> None:
         final: Element = {
             "planes": [[5, 1, 2, 3, 4], [6, 0, 0, 0, 9], [70, 7, 7, 7, 7]],
@@ -307,6 +323,7 @@ class Differences(Folder):
                 ({"seq": [1, 9, 9]}, ["seq 1: 9, not 2, and 1 more"]),
                 ({"seq": [1, 2]}, ["seq: 2 of them, not 3"]),
                 ({"misc": 0}, ["misc: 0, not 3"]),
+                ({"misc": [3]}, ["misc: [3], not 3"]),
                 ({"colours": [[7, 1, 2, 0]]}, ["colours 7: [1, 2, 0], not [1, 2, 3]"]),
                 ({"colours": []}, ["colours 7: none, not [1, 2, 3]"]),
             ),

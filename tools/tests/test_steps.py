@@ -635,7 +635,7 @@ class Files(Folder):
         for words in (
             ("coverage", path),
             ("script", path, "0"),
-            ("confirm", path, "--vga", sys.executable),
+            ("confirm", path, "--vga", self.answering("ok")),
             ("check", "cat", path),
             ("coverage", path, path, "--jobs", "2"),
         ):

@@ -52,6 +52,8 @@ WAITING = 60
 ENDING = 10
 # The program that is tested, as the runner of the tests names it to their processes.
 PROGRAM = Path(os.environ.get(TESTED) or BUILT_PROGRAM)
+# What a program begins with that answers the script by which it is tried.
+TRIED = '#!/bin/sh\n[ "$(/bin/cat "$2")" = "in 3CC" ] && echo "1 00" && exit\n'
 # Why a test is skipped.
 UNBUILT = "there is no program to test: tools/tests-of-tools compiles one, if there is a C compiler"
 
@@ -321,8 +323,7 @@ class Folder(unittest.TestCase):
     def writing(self, report: str) -> str:
         """A program in the place of `vga` that writes this file; of the script by which it is
         tried, the right report."""
-        tried = '[ "$(/bin/cat "$2")" = "in 3CC" ] && echo "1 00" && exit'
-        return self.program("vga", f"#!/bin/sh\n{tried}\n/bin/cat {report}\n")
+        return self.program("vga", f"{TRIED}/bin/cat {report}\n")
 
     def temporary(self) -> str:
         """A folder for temporary files, of which none may be left when the test ends."""
