@@ -380,6 +380,18 @@ class Machines(Elements):
             number = f"{count} answer{'s' * (count != 1)}"
             hold_undone(self, done, f"it has {number}, and its script has {len(answers)} steps$")
 
+    def test_a_read_that_is_only_done_answers_nothing(self) -> None:
+        read = list(read_elements(str(MASKS)))[12]
+        path = self.elements("some.json", read)
+        answers = self.answers(read)
+        step = len(reached(read))
+        for said, told in (("80", "1 agree, 0 differ"), ("ok", "0 agree, 1 differ")):
+            answers[step] = said
+            self.report("some/000000.report", *answers)
+            status, output, errors = steps("reports", self.folder, path)
+            self.assertEqual((status, errors), (int(said == "ok"), ""))
+            self.assertTrue(output.endswith(f"1 element: {told}\n"), output)
+
     def test_of_all_files_each_counts(self) -> None:
         registers = {"seq": [3, 1, 15, 0, 4], "gfx": [0] * 6 + [4, 0, 255], "latches": [0] * 4}
         put = {**GOOD, **{part: {**GOOD[part], **registers} for part in (INITIAL, FINAL)}}

@@ -24,10 +24,10 @@ from zaklimot_tools.steps.comparing import differences
 from zaklimot_tools.steps.kinds import KINDS
 from zaklimot_tools.steps.parts import BDA, BEAM, FINAL, INITIAL, Element
 from zaklimot_tools.steps.readback import readback_lines
-from zaklimot_tools.steps.reading import fault_of
+from zaklimot_tools.steps.reading import fault_of, read_elements
 from zaklimot_tools.steps.rules import RULES
 
-from .stepping import GOOD, steps
+from .stepping import GOOD, STEPS_EXAMPLES, steps
 from .tools import Folder, hold
 
 
@@ -274,6 +274,14 @@ class Differences(Folder):
                 ),
             ),
         )
+
+    def test_a_line_has_as_many_entries_as_colours(self) -> None:
+        dots = next(iter(read_elements(str(STEPS_EXAMPLES / "dots-text.json.gz"))))
+        self.assertEqual(fault_of(dots), "")
+        for name in ("colours", "entries"):
+            answer = {**dots["answer"], name: dots["answer"][name][1:]}
+            told = fault_of({**dots, "answer": answer})
+            self.assertEqual(told, "its answer is none of the step line")
 
     def test_places_come_in_any_order(self) -> None:
         final: Element = {
