@@ -27,16 +27,15 @@ def _packed(name: str, data: bytes) -> bytes:
     return gzip.compress(data) if is_packed else data
 
 
-def _forget_packages() -> None:
-    """Has the process find neither numpy nor Pillow."""
-    for name in list(sys.modules):
-        if name.partition(".")[0] in ("numpy", "PIL"):
-            sys.modules[name] = None  # type: ignore[assignment]
+def _find_packages() -> None:
+    """Has the process find numpy and Pillow, if they are here, as the tests don't otherwise."""
     for name in ("numpy", "PIL"):
-        sys.modules[name] = None  # type: ignore[assignment]
+        sys.modules.pop(name, None)
 
 
 class Answers(unittest.TestCase):
+    # Each has some hundred command lines, which take a busy machine minutes.
+    most_seconds = 1200
     RECORDED = json.loads(answers.FILE.read_text("ascii"))
 
     @classmethod
@@ -67,7 +66,6 @@ class Answers(unittest.TestCase):
         lines = answers.lines()
         self.assertEqual((set(lines), len(set(lines))), (set(self.RECORDED), len(lines)))
 
-    # A test has its time, in which a busy machine does no more than some hundred lines.
     def test_runs(self) -> None:
         self.hold_to_record("vga-report run ", 0, 2)
 
@@ -110,9 +108,14 @@ class Answers(unittest.TestCase):
         self.hold_to_record("vga-trace ", change=_packed)
         self.hold_to_record("vga-steps ", change=_packed)
 
-    def test_images_without_packages(self) -> None:
+    def test_images_with_packages(self) -> None:
         for tool in ("vga-picture ", "vga-report compare-picture", "vga-report pictures"):
-            self.hold_to_record(tool, prepare=_forget_packages)
+            for line in answers.lines(tool):
+                wanted = self.RECORDED[line]
+                # Where Pillow is missed, it reads the image, or says why it can't.
+                if "pillow" not in wanted[2]:
+                    with self.subTest(line):
+                        self.assertEqual(answers.answer(line, prepare=_find_packages), wanted)
 
     def test_what_makes_and_tests_them(self) -> None:
         for tool in ("fuzz", "library", "release", "page", "emulators", "bindings", "machine"):

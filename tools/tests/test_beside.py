@@ -218,6 +218,8 @@ class Beside(Folder):
             (b"GIF89a", "cannot identify image file"),
             (b"%!PS-Adobe-3.0 EPSF-3.0\n%%BoundingBox: 0 0 9 9\n", "cannot identify image file"),
             (bmp(photo(320, 200, 4))[:-400], "image file is truncated"),
+            # It has fewer dots than an interlaced one, and Pillow reads them before its size.
+            (png(2, 1, b"\0" + bytes(6), interlace=1), "image file is truncated"),
         ):
             done = self.read("image", data, "--mode", "13", "--scale")
             hold_undone(

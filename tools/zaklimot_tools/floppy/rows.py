@@ -253,7 +253,7 @@ def _pictures(data: bytes, path: str) -> Iterator[bytes]:
     module = others.pillow()
     if module is not None:
         image = others.opened(module, data, path)
-        size = others.size_of(image)
+        size = others.size_of(image, path)
         if size.width * size.height > MOST_DOTS:
             raise Trouble(f"it has {size} dots, and {MOST_DOTS:,} are the most", path)
         yield from others.dark_on_white(image, WIDTHS, path)

@@ -40,10 +40,13 @@ def opened(module: Any, data: bytes, name: str) -> Any:
         raise _unread(error, name) from error
 
 
-def size_of(image: Any) -> ImageSize:
-    """The size of an image that stands upright."""
+def size_of(image: Any, name: str) -> ImageSize:
+    """The size of an image that stands upright. Some tell how they stand behind their dots only."""
     width, height = image.size
-    is_on_side = image.getexif().get(ORIENTATION, 1) in ON_ITS_SIDE
+    try:
+        is_on_side = image.getexif().get(ORIENTATION, 1) in ON_ITS_SIDE
+    except (OSError, ValueError, SyntaxError, EOFError) as error:
+        raise _unread(error, name) from error
     return ImageSize(height, width) if is_on_side else ImageSize(width, height)
 
 

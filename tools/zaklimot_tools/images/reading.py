@@ -93,7 +93,7 @@ def size_of(data: bytes, name: str) -> ImageSize:
     if data.startswith(PPM_BEGINS):
         head = _ppm_head(data, name)
         return ImageSize(head.width, head.height)
-    return others.size_of(others.opened(_pillow(name), data, name))
+    return others.size_of(others.opened(_pillow(name), data, name), name)
 
 
 class PpmHead(NamedTuple):
@@ -136,7 +136,7 @@ def _pillow(name: str, told: str = "this is neither a PNG nor a PPM of the kind 
 def _other(data: bytes, name: str, most: int, ground: Optional[bytes], told: str = "") -> Image:
     module = _pillow(name, told) if told else _pillow(name)
     image = others.opened(module, data, name)
-    width, height = others.size_of(image)
+    width, height = others.size_of(image, name)
     _check_dots(width, height, most, name)
     return Image(width, height, others.rows_of(image, name, ground), 255)
 
