@@ -1,4 +1,4 @@
-"""Tests of the tools: `tools/tests-of-tools`, or `python3 -m pytest tools/tests` without limits."""
+"""Tests of the tools: `tools/tests-of-tools`, or `python3 -m unittest` without limits."""
 
 import sys
 

@@ -19,7 +19,7 @@ from zaklimot_tools.steps.making import elements
 from zaklimot_tools.steps.parts import Element
 from zaklimot_tools.script.words import FONTS
 
-from .tools import EXAMPLES, Folder, run_tool
+from .tools import EXAMPLES, Folder, run_tool, takes_long
 
 STEPS_EXAMPLES = EXAMPLES / "steps"
 # The seed of these tests, and how many elements of each kind they take.
@@ -46,8 +46,9 @@ def told(path: Path) -> bytes:
     return gzip.decompress(data) if path.suffix == ".gz" else data
 
 
-# The files of all kinds, made once.
+# The files of all kinds, made once in a process, and the folder that has them until it ends.
 files: dict[str, Path] = {}
+folders: list[tempfile.TemporaryDirectory[str]] = []
 
 
 def compile_library() -> None:
@@ -62,14 +63,20 @@ def make_files() -> None:
     """Makes the files of all kinds."""
     compile_library()
     folder = tempfile.TemporaryDirectory()
-    unittest.addModuleCleanup(folder.cleanup)
+    folders.append(folder)
     status, output, said = steps("make", folder.name, "--count", COUNT, "--seed", SEED, "--jobs", 4)
     assert (status, said) == (0, ""), said
     files.update({Path(name).name.partition(".")[0]: Path(name) for name in output.split()})
 
 
+@takes_long
 class Made(Folder):
     """A test with the files of all kinds."""
+
+    @classmethod
+    def setUpClass(cls) -> None:
+        if not files:
+            make_files()
 
     @property
     def files(self) -> dict[str, Path]:

@@ -10,7 +10,7 @@ import unittest
 from typing import Any
 
 from . import answers
-from .tools import want_program
+from .tools import takes_long, want_program
 
 
 def _with_carriage_returns(name: str, data: bytes) -> bytes:
@@ -33,13 +33,13 @@ def _find_packages() -> None:
         sys.modules.pop(name, None)
 
 
+@takes_long
 class Answers(unittest.TestCase):
     # Each has some hundred command lines, which take a busy machine minutes.
     most_seconds = 1200
     RECORDED = json.loads(answers.FILE.read_text("ascii"))
 
-    @classmethod
-    def setUpClass(cls) -> None:
+    def setUp(self) -> None:
         want_program()
 
     def hold_to_record(self, tool: str, first: int = 0, step: int = 1, **otherwise: Any) -> None:

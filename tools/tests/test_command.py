@@ -26,6 +26,7 @@ from .tools import (
     ppm,
     report,
     run_tool,
+    takes_long,
 )
 
 
@@ -530,6 +531,7 @@ KEPT_FILES = [
 ]
 
 
+@takes_long
 class Suite(Folder):
     def setUp(self) -> None:
         super().setUp()

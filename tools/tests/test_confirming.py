@@ -23,7 +23,7 @@ from zaklimot_tools.steps.scripts import confirming as confirmed
 from zaklimot_tools.steps.scripts import reached, scripted
 
 from .stepping import STEPS_EXAMPLES, steps
-from .tools import PROGRAM, Folder, hold_undone, refused, want_program
+from .tools import PROGRAM, Folder, hold_undone, refused, takes_long, want_program
 
 # So many of the examples of each kind are run by both.
 FEW = 3
@@ -49,6 +49,7 @@ def numbers_in(value: Any) -> Iterator[tuple[Any, Any]]:
             yield value, key
 
 
+@takes_long
 class Runs(Folder):
     """Scripts are run by the program, or by the library."""
 
@@ -134,6 +135,7 @@ class Runs(Folder):
             )
 
 
+@takes_long
 class Confirming(unittest.TestCase):
     def test_the_script_is_that_of_the_element(self) -> None:
         for kind in KINDS:

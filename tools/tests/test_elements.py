@@ -24,7 +24,7 @@ from zaklimot_tools.steps.reading import read_elements
 from zaklimot_tools.steps.scripts import reached
 
 from .stepping import GOOD, STEPS_EXAMPLES, steps
-from .tools import TRIED, Folder, hold, hold_refused, hold_undone, refused, run_tool
+from .tools import TRIED, Folder, hold, hold_refused, hold_undone, refused, run_tool, takes_long
 
 SEQUENCER = STEPS_EXAMPLES / "sequencer.json.gz"
 MASKS = STEPS_EXAMPLES / "dac-mask.json.gz"
@@ -61,6 +61,7 @@ class Elements(Folder):
         return status, output.decode(), said
 
 
+@takes_long
 class StandardInput(Elements):
     def test_each_command_reads_it(self) -> None:
         data = SEQUENCER.read_bytes()

@@ -52,7 +52,10 @@ class Tables(Folder):
             return replace(MACHINES[name], version=lambda: f"{name[0]} 1", rom=None)
 
         machines = {name: versioned(name) for name in MACHINES}
-        self.patch(mock.patch.dict(MACHINES, machines))
+        self.patch(
+            mock.patch.dict(MACHINES, machines),
+            mock.patch.object(running, "_package_version", lambda package: f"{package} 2"),
+        )
         self.page = Path(self.write("p.md", f"Before.\r\n{FIRST_MARK}{LAST_MARK}\nAfter.\xe9"))
 
     def results(self, name: str, words: str, *rules: dict[str, Any]) -> str:

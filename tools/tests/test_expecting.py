@@ -22,7 +22,7 @@ from zaklimot_tools.script import program
 from zaklimot_tools.script.reading import text_of
 
 from .running import Fake, run
-from .tools import EXAMPLES, PROGRAM, begin, hold, refused, want_program
+from .tools import EXAMPLES, PROGRAM, begin, hold, refused, takes_long, want_program
 
 # What the program does first where two runs of it are to be under way at a time.
 TOGETHER = """import glob, os, time
@@ -155,6 +155,7 @@ class Examples(unittest.TestCase):
             self.assertRegex(line, r"\.bin: |, ([1-9]\d*) of \1 answers as expected$")
 
 
+@takes_long
 class Several(Fake):
     def setUp(self) -> None:
         super().setUp()

@@ -30,7 +30,7 @@ from zaklimot_tools.dev.fuzz import command
 from zaklimot_tools.dev.fuzz.feeding import Fed, Program, check, meant_by
 from zaklimot_tools.dev.fuzz.making import Feed, block, make, spelled, step
 
-from .tools import Folder, begin, call, hold, hold_undone, main_of
+from .tools import Folder, begin, call, hold, hold_undone, main_of, takes_long
 
 # A program that takes each text as the same script, prints bytes as they are, and answers each
 # script alike.
@@ -90,6 +90,7 @@ SCRIPT = Feed(False, b"VGAS\x01\x03\xda\x03", "script")
 TEXT = Feed(True, b"in 3DA\n", "text")
 
 
+@takes_long
 class Fuzzing(Folder):
     def setUp(self) -> None:
         super().setUp()

@@ -26,10 +26,9 @@ from zaklimot_tools.steps.parts import FINAL
 from zaklimot_tools.steps.reading import read_elements
 
 from .steps_adapter import FAULTS, FaultyCard
-from .stepping import COUNT, GOOD, Made, STEPS_EXAMPLES, files, make_files, steps, told
+from .stepping import COUNT, GOOD, Made, STEPS_EXAMPLES, files, steps, told
 from .tools import SIGNALS, TOOLS, begin, ended
 
-setUpModule = make_files
 
 # Which kinds find each fault, and the rule that is told first.
 FOUND = {

@@ -222,17 +222,19 @@ class Blocks(Folder):
         red, green, blue = (63, 0, 0), (0, 63, 0), (0, 0, 32)
         four = ppm_of([[red, green], [blue, blue]])
         picture = Picture.of_ppm(four)
-        lines = list(block_lines(picture, 80))
+        lines = list(block_lines(picture, 80, 20))
         colours = [re.findall(r"38;2;([\d;]+);48;2;([\d;]+)m", line) for line in lines]
         self.assertEqual(colours, [[("255;0;0", "0;0;130"), ("0;255;0", "0;0;130")]])
-        self.assertEqual(list(block_lines(picture, 1)), lines)
+        self.assertEqual(list(block_lines(picture, 1, 1)), lines)
         wide = Picture.of_dots(8, 6, bytes(8 * 6 * 3))
-        self.assertEqual([line.count("\u2580") for line in block_lines(wide, 100)], [8] * 3)
-        self.assertEqual([line.count("\u2580") for line in block_lines(wide, 4)], [4])
+        for columns, high, widths in ((100, 20, [8] * 3), (4, 20, [4]), (100, 2, [5] * 2)):
+            shown = block_lines(wide, columns, high)
+            self.assertEqual([line.count("\u2580") for line in shown], widths)
         # Of several dots in a block the mean.
         mean = Picture.of_ppm(ppm_of([[red, green, red, green]] * 2))
-        (line,) = block_lines(mean, 2)
-        self.assertEqual(line.count("38;2;127;127;0;48;2;127;127;0m"), 2)
+        (line,) = block_lines(mean, 2, 20)
+        # Blocks of the same colours that follow one another name them once.
+        self.assertEqual(line, "\x1b[38;2;127;127;0;48;2;127;127;0m\u2580\u2580\x1b[0m")
 
 
 class Colours(Folder):

@@ -29,6 +29,7 @@ from .tools import (
     is_running,
     run_tool,
     want_program,
+    takes_long,
 )
 
 
@@ -92,6 +93,7 @@ RECORDED = [
 ]
 
 
+@takes_long
 @unittest.skipUnless(HAS_NODE, "node is not here")
 class Recorded(Folder):
     def setUp(self) -> None:

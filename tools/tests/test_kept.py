@@ -22,7 +22,17 @@ from zaklimot_tools.trace.container import keep, unpacked
 from zaklimot_tools.trace.judging import Judging
 from zaklimot_tools.trace.note import digests_of, note_of
 
-from .tools import PROGRAM, Folder, hold_undone, png_rows, ppm, refused, run_tool, want_program
+from .tools import (
+    PROGRAM,
+    Folder,
+    hold_undone,
+    takes_long,
+    png_rows,
+    ppm,
+    refused,
+    run_tool,
+    want_program,
+)
 
 
 TRACE = b"0+0 int 3 0 0 0\n1+9 w m B8000 41 1\n9+99 frame\n"
@@ -30,6 +40,7 @@ NAMES = ["picture-1.png", "recording.json", "screen-1.ppm", "trace.gz", "verdict
 NOTE = {"is": "zaklimot recording", "version": 1, "machine": "page", "screens": [0.5]}
 
 
+@takes_long
 class Kept(Folder):
     def setUp(self) -> None:
         super().setUp()

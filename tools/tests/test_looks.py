@@ -13,7 +13,7 @@ from zaklimot_tools.trace.finding import found_in
 from zaklimot_tools.trace.state import State
 
 from .test_seeing import Seen
-from .tools import PROGRAM, hold, hold_undone, png_rows, run_tool
+from .tools import PROGRAM, hold, hold_undone, png_rows, run_tool, takes_long
 
 
 # Mode 7, whose characters have the attributes 01, 81, 09 and 07; and mode 3 without blinking.
@@ -127,6 +127,7 @@ class Forms(Seen):
         self.assertEqual(self.done("text", trace).split("\n")[0], "\u2302\xa0 \u00a7\u25bcA")
 
 
+@takes_long
 class Moments(Seen):
     def rows(self, *words: str) -> str:
         """The text that is shown at a moment, without the ends of its rows."""
@@ -305,6 +306,7 @@ class Finding(Seen):
         self.assertEqual(found, [(0, 0), (0, 4), (1, 0)])
 
 
+@takes_long
 class Files(Seen):
     def bytes_of(self, name: str, *words: str) -> bytes:
         """What a command writes to standard output."""

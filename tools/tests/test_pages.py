@@ -5,7 +5,7 @@ from __future__ import annotations
 
 import os
 import re
-import subprocess
+import shutil
 import sys
 import unittest
 import zlib
@@ -145,9 +145,14 @@ def commands_in_prose(text: str) -> list[str]:
 
 
 def files(*patterns: str) -> list[str]:
-    """The files of the repository whose paths fit a pattern, or all of them."""
-    words = ["git", "ls-files", "-z", "--cached", "--others", "--exclude-standard", "--", *patterns]
-    listed = subprocess.run(words, cwd=TOP, capture_output=True, check=True).stdout
+    """The files of the repository whose paths fit a pattern, or all of them. Without git, or where
+    this is no clone, the test is skipped."""
+    words = ("ls-files", "-z", "--cached", "--others", "--exclude-standard", "--", *patterns)
+    if shutil.which("git") is None:
+        raise unittest.SkipTest("git is not here")
+    status, listed, _ = ended("git", *words, cwd=TOP, text=False)
+    if status:
+        raise unittest.SkipTest("this is no clone")
     return [
         name for name in sorted(set(listed.decode().split("\0"))) if name and (TOP / name).exists()
     ]

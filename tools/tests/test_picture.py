@@ -51,6 +51,7 @@ from .tools import (
     refused,
     run_texts,
     run_tool,
+    takes_long,
 )
 
 
@@ -386,6 +387,7 @@ def of_many_colours() -> Iterator[Case]:
         yield Case(png_of(MANY), f"--mode 0D {words}", told)
 
 
+@takes_long
 class Drawing(Folder):
     """Each script draws its image, dot for dot."""
 

@@ -13,9 +13,10 @@ from zaklimot_tools.picture.words import colour, main
 
 from .test_images import png
 from .test_picture import BLACK, FONT, RED, WHITE, glyph_lines, made_of, png_of, ppm_of
-from .tools import Folder, call, hold_undone, patched, run_tool
+from .tools import Folder, call, hold_undone, patched, run_tool, takes_long
 
 
+@takes_long
 class Words(Folder):
     def test_an_image_of_standard_input(self) -> None:
         image = png_of([[RED] * 320] * 200)

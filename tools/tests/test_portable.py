@@ -11,7 +11,9 @@ import os
 import re
 import shutil
 import signal
+import stat
 import sys
+import tempfile
 import unittest
 from functools import partial
 from pathlib import Path
@@ -28,7 +30,7 @@ from zaklimot_tools.script.program import built_program, found_program
 from zaklimot_tools.script.program import PROGRAM as BUILT_PROGRAM
 
 from . import commands
-from .tools import SIGNALS, TOP, Folder, begin, hold_refused, patched, refused
+from .tools import SIGNALS, TOP, Folder, begin, hold_refused, patched, refused, takes_long
 
 
 SOURCE = (TOP / "portable" / "vga.c").read_text("ascii")
@@ -53,6 +55,7 @@ def the_portable() -> str:
             raise unittest.SkipTest(str(trouble)) from trouble
 
 
+@takes_long
 @unittest.skipIf(sys.platform == "win32", "names and pipes are those of POSIX")
 class Answers(Folder):
     """Each command line of a large table is answered as it was written down from the proved
@@ -145,7 +148,7 @@ class Compiled(Cache):
     def test_once_and_it_is_told(self) -> None:
         path, said = self.found()
         given = {"compiler": self.environment["CC"], "told": "the program vga", "kind": "program"}
-        self.assertEqual(said, portable.COMPILES.format(**given))
+        self.assertEqual(said, portable.COMPILES.format(**given, folder=self.cache))
         self.assertRegex(
             said, r"^\S+ compiles .* in about 20 seconds, and once: .* is tested, not proved\n$"
         )
@@ -310,10 +313,6 @@ class Lacking(Cache):
                 {"XDG_CACHE_HOME": file},
                 rf"^{file}\S*: Not a directory; .* can be written by XDG_CACHE_HOME$",
             ),
-            (
-                {"XDG_CACHE_HOME": "", "HOME": file},
-                rf"^{file}\S*: Not a directory; .* can be written by XDG_CACHE_HOME$",
-            ),
         ):
             with self.subTest(variables), mock.patch.dict(os.environ, variables):
                 with contextlib.redirect_stderr(io.StringIO()):
@@ -329,13 +328,25 @@ class Lacking(Cache):
         )
         self.assertEqual(self.noted(), 0)
 
-    def test_a_user_without_a_home_folder(self) -> None:
-        told = "^there is no home folder; .* can be written by XDG_CACHE_HOME$"
-        with mock.patch.dict(os.environ, XDG_CACHE_HOME=""), mock.patch.object(
-            Path, "home", side_effect=RuntimeError("no home")
-        ):
-            hold_refused(self, portable_program, ((told,),))
-        self.assertEqual(self.noted(), 0)
+    def test_where_no_home_can_be_written_it_is_kept_among_temporary_files(self) -> None:
+        temporary = self.folder / "temporary"
+        temporary.mkdir()
+        self.patch(
+            mock.patch.dict(os.environ, XDG_CACHE_HOME="", HOME=self.write("file", "")),
+            mock.patch.object(tempfile, "tempdir", str(temporary)),
+        )
+        path, said = self.found()
+        (folder,) = temporary.iterdir()
+        self.assertEqual((path.parents[2], stat.S_IMODE(folder.stat().st_mode)), (folder, 0o700))
+        self.assertIn(f" into {folder}/zaklimot now, ", said)
+        with mock.patch.object(Path, "home", side_effect=RuntimeError("no home")):
+            self.assertEqual(self.found(), (path, ""))
+        # What others may have laid there is not run.
+        folder.chmod(0o777)
+        hold_refused(self, portable_program, ((f"^{folder}: others can write there; ",),))
+        shutil.rmtree(folder)
+        folder.symlink_to(self.folder)
+        hold_refused(self, portable_program, ((f"^{folder}: others can write there; ",),))
 
     def test_a_cache_that_is_no_whole_path_is_none(self) -> None:
         with mock.patch.dict(os.environ, XDG_CACHE_HOME="cache", HOME=str(self.folder / "home")):

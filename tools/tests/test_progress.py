@@ -12,7 +12,7 @@ from typing import Callable, NamedTuple
 from zaklimot_tools.core import progress
 
 from .answers import given_files
-from .tools import PROGRAM, RED, Folder, ppm, report, run_tool, want_program
+from .tools import PROGRAM, RED, Folder, ppm, report, run_tool, takes_long, want_program
 
 # An adapter that takes an element, and answers nothing of it.
 ADAPTER = "import sys\nfor line in sys.stdin:\n    print('{}', flush=True)\n"
@@ -96,6 +96,7 @@ def _shown(written: str) -> str:
     return "\n".join(rows)
 
 
+@takes_long
 class Terminal(Folder):
     @classmethod
     def setUpClass(cls) -> None:

@@ -40,6 +40,7 @@ from .tools import (
     png_rows,
     ppm,
     want_program,
+    takes_long,
 )
 from .tracing import listed, qemu, run
 
@@ -198,6 +199,7 @@ HELD_ROWS_OF_SCREENS: tuple[tuple[Any, ...], ...] = (
 )
 
 
+@takes_long
 class Recorded(Folder):
     """Recordings of a fake of qemu, replayed by a fake of the program."""
 

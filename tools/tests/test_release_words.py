@@ -5,7 +5,9 @@ from __future__ import annotations
 import hashlib
 import io
 import os
+import shutil
 import tarfile
+import unittest
 from pathlib import Path
 from typing import Any, Optional
 from unittest import mock
@@ -172,6 +174,7 @@ class Commits(Folder):
         with mock.patch.object(release, "_git", lambda command, *_: told[command]):
             self.assertEqual(release.clean_commit(), COMMIT)
 
+    @unittest.skipIf(shutil.which("git") is None, "git is not here")
     def test_its_time_is_that_at_which_it_was_made(self) -> None:
         # Its author may have written it long before. A file that is in no commit changes nothing.
         dates = {"GIT_AUTHOR_DATE": "1600000000 +0100", "GIT_COMMITTER_DATE": "1700000000 +0200"}

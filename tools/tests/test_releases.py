@@ -39,7 +39,7 @@ from zaklimot_tools.dev.release.command import (
 from zaklimot_tools.steps.kinds import KINDS
 
 from .test_pages import broken
-from .tools import Folder, call, ended, hold, hold_undone, main_of, patched, refused
+from .tools import Folder, call, ended, hold, hold_undone, main_of, patched, refused, takes_long
 
 
 ENTRIES: dict[str, Entry] = {
@@ -60,6 +60,7 @@ def content_of(entry: Entry) -> bytes:
     return entry.content
 
 
+@takes_long
 class Parts(Folder):
     """The archive, and what goes into it."""
 
@@ -293,6 +294,7 @@ def sources() -> dict[str, Entry]:
     return {**entries, **LINKS}
 
 
+@takes_long
 class Whole(Folder):
     """All pages of a release, as who has unpacked it reads them."""
 

@@ -7,8 +7,10 @@ import unittest
 from zaklimot_tools.steps.kinds import KINDS
 
 from . import digests
+from .tools import takes_long
 
 
+@takes_long
 class Seeds(unittest.TestCase):
     KEPT = json.loads(digests.FILE.read_text("ascii"))
 

@@ -124,12 +124,29 @@ class Together(Fake):
             data = (self.folder / "p" / "0003.png").read_bytes()
             self.assertEqual(png_rows(data)[:2], size, words)
 
-    def test_blocks_of_colour_are_as_wide_as_the_terminal_at_most(self) -> None:
-        for columns, width in (("4", 4), ("200", 9)):
-            with mock.patch.dict(os.environ, COLUMNS=columns):
+    def test_blocks_of_colour_fit_the_terminal(self) -> None:
+        for columns, lines, width in (("4", "24", 4), ("200", "24", 9), ("200", "6", 5)):
+            with mock.patch.dict(os.environ, COLUMNS=columns, LINES=lines):
                 output = self.run_text("get 0\nframe\n", "--show")[1]
             shown = [line.count("\u2580") for line in output.splitlines() if "\u2580" in line]
             self.assertEqual(set(shown), {width})
+
+    def test_a_terminal_that_does_not_say_that_it_has_the_colours_is_told_of(self) -> None:
+        words = parser().parse_args(["run", "s.vga", "--show"])
+        for is_terminal, colours, pictures, is_told in (
+            (True, "", 1, True),
+            (True, "truecolor", 1, False),
+            (True, "", 0, False),
+            (False, "", 1, False),
+        ):
+            tally = mock.Mock(pictures=pictures, differing=lambda: ())
+            with (
+                mock.patch("sys.stdout.isatty", lambda: is_terminal),
+                mock.patch("zaklimot_tools.report.modes.say") as say,
+                mock.patch.dict(os.environ, COLORTERM=colours),
+            ):
+                StepList(words, mock.Mock(), mock.Mock()).end(tally)
+            self.assertEqual(say.called, is_told, (is_terminal, colours, pictures))
 
     def test_the_line_of_a_terminal_is_taken_away_before_a_step_is_shown(self) -> None:
         words = parser().parse_args(["run", "s.vga"])

@@ -13,7 +13,7 @@ from zaklimot_tools.report.report import Report
 from zaklimot_tools.trace.state import Beam, BeamPlace, State, rebuilt
 from zaklimot_tools.trace.step import ADVANCE, FRAME, OUT, OUTW, PUTW, READS, WORDS, TraceStep
 
-from .tools import hold, refused, run_texts, stream
+from .tools import hold, refused, run_texts, stream, takes_long
 from .tracing import steps_listed
 
 # Steps that enable memory, in planar order with all planes open and no bits masked.
@@ -116,6 +116,7 @@ def of_port(random: Random) -> str:
     return f"{random.choice('wwr')} p {port:X} {value:X} {random.choice((1, 1, 1, 1, 2))}"
 
 
+@takes_long
 class Program(unittest.TestCase):
     def test_the_state_and_each_end_of_a_cut_are_the_programs(self) -> None:
         cuts = {f"{seed} {first}": (seed, first) for seed in SEEDS for first in FIRSTS}

@@ -33,7 +33,7 @@ from zaklimot_tools.steps.scripts import confirming, expected_answer, reached, t
 from zaklimot_tools.script.words import FONTS
 
 from . import branches
-from .stepping import COUNT, GOOD, Made, SEED, STEPS_EXAMPLES, make_files, steps, told
+from .stepping import COUNT, GOOD, Made, SEED, STEPS_EXAMPLES, steps, told
 from .tools import (
     PROGRAM,
     TOP,
@@ -46,7 +46,6 @@ from .tools import (
     want_program,
 )
 
-setUpModule = make_files
 
 PAGE = TOP / "docs" / "STEPS.md"
 # Registers of a plain write to all planes.

@@ -5,7 +5,6 @@ from __future__ import annotations
 import ast
 import os
 import re
-import subprocess
 import unittest
 from collections import Counter
 from pathlib import Path
@@ -14,6 +13,7 @@ from unittest import mock
 
 from zaklimot_tools.dev.testing import style
 
+from .test_pages import files
 from .tools import TOOLS, TOP, Folder, call, hold_undone, main_of
 
 
@@ -136,11 +136,7 @@ class Style(Folder):
         self.assertEqual(self.judged("--ready", flake8="exit 1", mypy="exit 1"), (0, "", ""))
 
     def test_the_folders_have_all_python(self) -> None:
-        listed = subprocess.run(["git", "ls-files", "*.py"], cwd=TOP, stdout=subprocess.PIPE)
-        files = {Path(name).parts[0] for name in listed.stdout.decode().splitlines()}
-        if not files:
-            self.skipTest("this is no clone")
-        self.assertEqual(files, {*style.FOLDERS})
+        self.assertEqual({Path(name).parts[0] for name in files("*.py")}, {*style.FOLDERS})
 
 
 class Written(unittest.TestCase):

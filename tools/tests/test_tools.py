@@ -58,6 +58,7 @@ from .tools import (
     hold_undone,
     refused,
     run_tool,
+    takes_long,
 )
 
 
@@ -137,9 +138,9 @@ class One(unittest.TestCase):
 BAD = {
     "fails": ("self.fail('oh')", "AssertionError: oh"),
     "raises": ("no_such_name", "NameError: name 'no_such_name'"),
-    "ends": ("os._exit(0)", "worker 'gw\\d' crashed while running '[^']*ends.py::One::test_one'"),
-    "is_killed": ("os.kill(os.getpid(), 9)", "crashed while running '[^']*is_killed.py::One"),
-    "is_asked_to_end": ("os.kill(os.getpid(), 15)", "crashed while running '[^']*is_asked_to_end"),
+    "ends": ("os._exit(0)", "its process ended with status 0"),
+    "is_killed": ("os.kill(os.getpid(), 9)", "its process ended with status -9"),
+    "is_asked_to_end": ("os.kill(os.getpid(), 15)", "its process ended with status -15"),
     "lacks": ("import no_such_module", "No module named 'no_such_module'"),
 }
 
@@ -324,6 +325,7 @@ class Commands(Folder):
         told = refused(partial(captured, is_ended=is_ended), ["sleep", "600"])
         self.assertEqual(told, "sleep: it was ended")
 
+    @takes_long
     def test_signals_end_all_that_was_begun(self) -> None:
         self.write("two.fnt", "12")
         self.write("one.vga", "frame\n")
@@ -342,7 +344,7 @@ class Commands(Folder):
             "script": str(self.folder / "one.vga"),
             "vga": self.program("bin/vga", SLEEPING),
             "made": str(self.folder / "made"),
-            "tests": self.write("test_one.py", TESTS),
+            "tests": Path(self.write("sleeping.py", TESTS)).stem,
             "elements": str(TOP / "examples" / "steps" / "sequencer.json.gz"),
         }
         for line in STARTING:
@@ -356,17 +358,18 @@ class Commands(Folder):
         child, temporary = self.folder / "child", self.folder / "tmp"
         temporary.mkdir(exist_ok=True)
         child.unlink(missing_ok=True)
-        given = {"PATH": f"{self.folder / 'bin'}:{os.environ['PATH']}"}
-        with begin(
-            *words, env={**os.environ, **given, "TMPDIR": str(temporary), "CHILD": str(child)}
-        ) as process:
+        given = {
+            "PATH": f"{self.folder / 'bin'}:{os.environ['PATH']}",
+            "PYTHONPATH": str(self.folder),
+            "TMPDIR": str(temporary),
+            "CHILD": str(child),
+        }
+        with begin(*words, env={**os.environ, **given}) as process:
             numbers = [int(word) for word in self.wait_for(child, process).split()]
             self.assertNotEqual(list(temporary.iterdir()), [])
             process.send_signal(number)
             output, said = process.communicate(timeout=120)
-        # What pytest prints is shown as it comes.
-        shown = output if words[0] == "tests-of-tools" else b""
-        self.assertEqual((process.returncode, output, said), (status, shown, b""))
+        self.assertEqual((process.returncode, output, said), (status, b"", b""))
         self.assert_ended(*numbers)
         self.assertEqual(list(temporary.iterdir()), [])
         self.assertFalse((self.folder / "made").exists())
@@ -507,28 +510,32 @@ class Lines(Folder):
         progress.tell.assert_called_once_with("s.vga: no answer yet after 0 seconds")
 
 
-def has_pytest() -> bool:
-    """Whether a Python here has what runs the tests."""
-    try:
-        return bool(running._python())
-    except Trouble:
-        return False
+def find_modules(folder: Path) -> None:
+    """Has this process find modules of tests in a folder, and read those of the tests anew."""
+    sys.path.insert(0, str(folder))
+    for name in [name for name in sys.modules if name.partition(".")[0] == "tests"]:
+        del sys.modules[name]
+    running.MOST_WORKERS = 1
 
 
-@unittest.skipUnless(has_pytest(), running.LACKING)
+@takes_long
 class Running(Folder):
+    """The tests themselves, which the standard library runs."""
+
     def run_tests(self, *words: str, **lines: str) -> tuple[int, str]:
         """Exit status and output of tests, of which each module has one that does what a line
         says."""
-        places = [self.write(f"{name}.py", TEST.format(line)) for name, line in lines.items()]
+        names = [
+            Path(self.write(f"{name}.py", TEST.format(line))).stem for name, line in lines.items()
+        ]
         # No program is compiled for them.
         tested = os.environ.get(TESTED) or str(self.folder / "none")
 
         def prepare() -> None:
             os.environ[TESTED] = tested
-            running.MOST_WORKERS = 1
+            find_modules(self.folder)
 
-        status, output, said = run_tool("tests-of-tools", *words, *places, prepare=prepare)
+        status, output, said = run_tool("tests-of-tools", *words, *names, prepare=prepare)
         self.assertEqual(said, "")
         return status, output.decode()
 
@@ -539,7 +546,7 @@ class Running(Folder):
         self.assertEqual((status, said.splitlines()[-1]), (1, f"1 passed, {len(BAD)} failed"))
         for name, (_, told) in BAD.items():
             self.assertRegex(said, told)
-            self.assertRegex(said, rf"\nFAILED \S*{name}\.py::One::test_one\b")
+            self.assertRegex(said, rf"(?m)^failed  {name}\.One\.test_one$")
 
     @unittest.skipUnless(IS_LINUX, "processes are looked at as Linux shows them")
     def test_what_a_test_leaves_running_is_ended(self) -> None:
@@ -558,7 +565,7 @@ class Running(Folder):
         status, said = self.run_tests(takes="bytes(3 << 30)", good="pass")
         self.assertEqual((status, said.splitlines()[-1]), (1, "1 passed, 1 failed"))
         self.assertIn("MemoryError", said)
-        self.assertRegex(said, r"\nFAILED \S*takes\.py::One::test_one\b")
+        self.assertRegex(said, r"(?m)^failed  takes\.One\.test_one$")
 
     @unittest.skipUnless(IS_LINUX, "limits are those of Linux")
     def test_a_class_of_tests_may_need_more_memory(self) -> None:
@@ -567,7 +574,7 @@ class Running(Folder):
             more="bytes(3 << 30)\n    most_memory = 1 << 32", takes="bytes(3 << 30)"
         )
         self.assertEqual((status, said.splitlines()[-1]), (1, "1 passed, 1 failed"))
-        self.assertRegex(said, r"\nFAILED \S*takes\.py::One::test_one\b")
+        self.assertRegex(said, r"(?m)^failed  takes\.One\.test_one$")
 
     def test_a_test_that_takes_too_long(self) -> None:
         status, said = self.run_tests(
@@ -577,7 +584,7 @@ class Running(Folder):
         )
         self.assertEqual((status, said.splitlines()[-1]), (1, "1 passed, 2 failed"))
         for name in ("takes", "sets_up"):
-            self.assertRegex(said, rf"\n(FAILED|ERROR) \S*{name}\.py::One::test_one\b")
+            self.assertRegex(said, rf"(?m)^failed  {name}\.One\.test_one$")
         self.assertIn("TookTooLong: the test takes more than 0.5 seconds", said)
 
     def test_a_class_of_tests_may_need_more_time(self) -> None:
@@ -590,35 +597,53 @@ class Running(Folder):
     def test_one_that_is_skipped_is_told_with_the_reason(self) -> None:
         status, said = self.run_tests(skips="self.skipTest('it is Sunday')", good="pass")
         self.assertEqual((status, said.splitlines()[-1]), (0, "1 passed, 0 failed, 1 skipped"))
-        self.assertRegex(said, r"\nSKIPPED \[1\] \S*skips\.py:\d+: it is Sunday\n")
+        self.assertIn("skipped  skips.One: it is Sunday\n", said)
+
+    def test_those_that_a_crash_leaves_run_all_the_same(self) -> None:
+        lines = "pass\n    def test_a(self): pass\n    def test_b(self): os._exit(3)"
+        status, said = self.run_tests(several=lines)
+        self.assertEqual((status, said.splitlines()[-1]), (1, "2 passed, 1 failed"))
+        self.assertIn("failed  several.One.test_b\nits process ended with status 3\n", said)
+
+    def test_a_class_that_can_not_be_set_up_or_cleaned_has_failed(self) -> None:
+        two = "pass\n    def test_two(self): pass\n    @classmethod\n    def {}(cls): {}"
+        for name, line, counts in (
+            ("setUpClass", "cls.x", "0 passed, 2 failed"),
+            ("setUpClass", "raise unittest.SkipTest('why')", "0 passed, 0 failed, 2 skipped"),
+            ("tearDownClass", "cls.x", "2 passed, 1 failed"),
+        ):
+            with self.subTest(name, line=line):
+                status, said = self.run_tests(one=two.format(name, line))
+                self.assertEqual(said.splitlines()[-1], counts)
+                self.assertEqual(status, int("1 failed" in counts or "2 failed" in counts))
 
     def test_modules_classes_and_tests_by_their_names(self) -> None:
-        file = str(TOOLS / "tests" / "test_banks.py")
-        hold(
-            self,
-            running._place,
-            (
-                ("tests.test_banks", file),
-                ("tests.test_banks.Banks.test_one", f"{file}::Banks::test_one"),
-                (f"{file}::Banks", f"{file}::Banks"),
-            ),
-        )
-        done = call(main_of("tests-of-tools"), "tests.test_none")
-        hold_undone(
-            self, done, "^tests-of-tools: tests.test_none: there is no such module of tests"
-        )
+        for name, count in (
+            ("tests.test_seeds", 2),
+            ("tests.test_seeds.Seeds", 2),
+            ("tests.test_seeds.Seeds.test_inputs", 1),
+        ):
+            self.assertEqual(len(running._found([name])), count, name)
+        status, output, said = run_tool("tests-of-tools", "tests.test_none")
+        self.assertEqual((status, said), (1, ""))
+        self.assertIn(b"No module named 'tests.test_none'\n", output)
 
     def test_no_test_ran(self) -> None:
-        path = self.write("empty.py", "")
-        status, output, said = run_tool("tests-of-tools", path)
-        self.assertEqual(
-            (status, said), (2, "tests-of-tools: pytest has run no test, and ended with status 5\n")
-        )
+        self.assertEqual(refused(self.run_none), "empty: there is no test")
 
-    def test_a_python_without_pytest(self) -> None:
-        with patched(running, {"PACKAGES": ("no_such_package",)}):
-            done = call(main_of("tests-of-tools"), "tests.test_banks")
-        hold_undone(self, done, "^tests-of-tools: no Python here has pytest and pytest-xdist: ")
+    def run_none(self) -> None:
+        self.write("empty.py", "")
+        with mock.patch.object(sys, "path", [str(self.folder), *sys.path]):
+            with mock.patch.dict(os.environ):
+                running.run_tests(["empty"], "none", Progress(False))
+
+    def test_what_takes_long_is_left_out_and_counted(self) -> None:
+        marked = "pass\n    @tools.takes_long\n    def test_two(self): pass"
+        self.write("marked.py", TEST.format(marked))
+        found = unittest.TestLoader()
+        with mock.patch.object(sys, "path", [str(self.folder), *sys.path]):
+            tests = list(running._flat(found.loadTestsFromName("marked")))
+        self.assertEqual([running._is_long(test) for test in tests], [False, True])
 
     def test_the_program_that_is_tested(self) -> None:
         line = f"Path('{self.folder}/seen').write_text(str(tools.PROGRAM))"
@@ -642,14 +667,16 @@ class Running(Folder):
         self.assertEqual((status, said.splitlines()[-1]), (1, "0 passed, 1 failed"))
 
 
-@unittest.skipUnless(has_pytest(), running.LACKING)
+@takes_long
 class Checking(Folder):
     """The test command for a machine without Rattle."""
 
     def checked(self, suite: running.Counts, **lines: str) -> tuple[int, list[str]]:
         """Exit status and the lines that it prints where the suite comes to these counts, and
         modules have these tests."""
-        places = [self.write(f"{name}.py", TEST.format(line)) for name, line in lines.items()]
+        names = [
+            Path(self.write(f"{name}.py", TEST.format(line))).stem for name, line in lines.items()
+        ]
         # The suite is asked of this program alone.
         suites = {"portable": suite}
         given = {
@@ -659,9 +686,9 @@ class Checking(Folder):
 
         def prepare() -> None:
             patched(checking, given).start()
-            running.MOST_WORKERS = 1
+            find_modules(self.folder)
 
-        status, output, said = run_tool("vga-check", *places, prepare=prepare)
+        status, output, said = run_tool("vga-check", *names, prepare=prepare)
         self.assertEqual(said, "")
         return status, output.decode().splitlines()
 
@@ -681,8 +708,7 @@ class Checking(Folder):
             with self.subTest(told):
                 status, output = self.checked(running.Counts(*suite), **lines)
                 self.assertEqual((status, output[-1]), told)
-                told_why = [line for line in output if re.fullmatch(r"SKIPPED .*: why", line)]
-                self.assertEqual(len(told_why), "skips" in lines)
+                self.assertEqual("skipped  skips.One: why" in output, "skips" in lines)
 
     def test_the_suite_over_a_program(self) -> None:
         # A program that knows two of the cases.
@@ -723,9 +749,12 @@ class Checking(Folder):
             )
 
 
+@takes_long
 @unittest.skipIf(sys.platform == "win32", "a script is a program on POSIX")
 class Gate(Folder):
-    def run_gate(self, tests: str, memory: str = "", prover: str = NOTING) -> tuple[int, str, str]:
+    def run_gate(
+        self, tests: str, memory: str = "", prover: str = NOTING, path: str = os.environ["PATH"]
+    ) -> tuple[int, str, str]:
         """Status of the gate over these programs and others that note their words; the notes; its
         standard error."""
         gate = self.folder / "gate"
@@ -733,17 +762,19 @@ class Gate(Folder):
         shutil.copytree(TOP / ".ci", gate / ".ci")
         names = ("page-tests", "bindings-tests", "library-tests", "style")
         fakes = dict.fromkeys((f"vga-{name}" for name in names), NOTING)
+        fakes["tests-in-a-bare-root"] = NOTING
         refusing = self.program("refusing", memory)
         beside = f'[ "$1" = tests.allocations ] && exec {refusing}\n'
         fakes["tests-of-tools"] = NOTING.replace("\n", f"\n{beside}", 1)
         for name, text in {**fakes, "vga-check": tests, "rt": prover}.items():
-            self.program(f"gate/tools/{name}", text)
+            if text:
+                self.program(f"gate/tools/{name}", text)
         # The gate fetches these where they are lacking.
         for name in ("wasm-opt", "wasm2c", "apt-get"):
             self.program(f"gate/tools/{name}", NOTING)
         given = {
             "NOTES": str(notes),
-            "PATH": f"{gate / 'tools'}:{os.environ['PATH']}",
+            "PATH": f"{gate / 'tools'}:{path}",
             "TMPDIR": self.temporary(),
         }
         status, _, error = ended(gate / ".ci" / "run", env={**os.environ, **given})
@@ -759,10 +790,16 @@ class Gate(Folder):
         self.assertEqual(self.run_gate(failing, memory)[0], 1)
         self.assert_ended(int(number.read_text()))
 
+    def test_without_the_toolchain_nothing_is_installed(self) -> None:
+        status, notes, error = self.run_gate(NOTING, prover="", path="/usr/bin:/bin")
+        self.assertEqual((status, notes), (2, ""))
+        self.assertRegex(error, "^.ci/run: rt is not in the path: .* 'Build it'$")
+
     def test_all_tests_run_again_once_the_program_is_built(self) -> None:
         status, notes, _ = self.run_gate(NOTING, prover=NOTING + SAYING.format("turned", REFUSED))
         self.assertEqual(status, 0)
-        self.assertIn("\nvga-check \nrt ci\ntests-of-tools --built\n", notes)
+        parts = ("vga-check --all", "tests-in-a-bare-root ", "rt ci", "tests-of-tools --built")
+        self.assertIn("\n{}\n{}\n{}\n{}\n".format(*parts), notes)
         self.assertLess(notes.index("\nvga-style "), notes.index("\nvga-check "))
         self.assertIn("\nvga-library-tests --portable --gated --proof ", notes)
 

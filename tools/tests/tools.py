@@ -20,7 +20,17 @@ import warnings
 import zlib
 from functools import partial
 from pathlib import Path
-from typing import Any, BinaryIO, Callable, Iterable, Mapping, NamedTuple, Optional, Sequence
+from typing import (
+    Any,
+    BinaryIO,
+    Callable,
+    Iterable,
+    Mapping,
+    NamedTuple,
+    Optional,
+    Sequence,
+    TypeVar,
+)
 from unittest import mock
 
 from zaklimot_tools.core.trouble import Trouble
@@ -56,6 +66,10 @@ PROGRAM = Path(os.environ.get(TESTED) or BUILT_PROGRAM)
 TRIED = '#!/bin/sh\n[ "$(/bin/cat "$2")" = "in 3CC" ] && echo "1 00" && exit\n'
 # Why a test is skipped.
 UNBUILT = "there is no program to test: tools/tests-of-tools compiles one, if there is a C compiler"
+
+
+# A test or a class of them.
+Marked = TypeVar("Marked", bound=Any)
 
 
 # All tools but the one that is the program itself.
@@ -188,6 +202,12 @@ def ended(*words: str | bytes | Path, **options: Any) -> tuple[int, Any, Any]:
     }
     done = subprocess.run(words, **given)
     return done.returncode, done.stdout, done.stderr
+
+
+def takes_long(test: Marked) -> Marked:
+    """Marks a test, or a class of them, that takes long: `vga-check` leaves it to --all."""
+    test.is_long = True
+    return test
 
 
 def want_program() -> None:

@@ -2,6 +2,7 @@
 
 import struct
 import zlib
+from itertools import groupby
 from typing import BinaryIO, Iterable, Iterator, NamedTuple, Optional
 
 from zaklimot.format import Picture
@@ -215,15 +216,16 @@ def _shrunk_row(picture: Picture, top: int, bottom: int, columns: int) -> list[l
     return colours
 
 
-def block_lines(picture: Picture, columns: int) -> Iterator[str]:
-    """The lines that show a picture, so many characters wide."""
-    columns = max(2, min(columns, picture.width))
-    rows = round(columns / MONITOR) // 2 * 2
+def block_lines(picture: Picture, columns: int, lines: int) -> Iterator[str]:
+    """The lines that show a picture in the shape of a monitor, at most so many characters wide and
+    so many lines high."""
+    columns = max(2, min(columns, picture.width, round(2 * lines * MONITOR)))
+    rows = max(2, round(columns / MONITOR) // 2 * 2)
     edges = [y * picture.height // rows for y in range(rows + 1)]
     for y in range(0, rows, 2):
         upper = _shrunk_row(picture, edges[y], edges[y + 1], columns)
         lower = _shrunk_row(picture, edges[y + 1], edges[y + 2], columns)
         yield "".join(
-            f"\x1b[38;2;{a[0]};{a[1]};{a[2]};48;2;{b[0]};{b[1]};{b[2]}m{UPPER_HALF}"
-            for a, b in zip(upper, lower)
+            "\x1b[38;2;{};{};{};48;2;{};{};{}m".format(*a, *b) + UPPER_HALF * len(list(cells))
+            for (a, b), cells in groupby(zip(upper, lower))
         ) + "\x1b[0m"

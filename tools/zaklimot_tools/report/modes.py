@@ -3,9 +3,11 @@
 import argparse
 import os
 import shutil
+import sys
 from typing import Callable
 
 from zaklimot.format import Picture
+from zaklimot_tools.core.cli import say
 from zaklimot_tools.core.files import STANDARD, files
 from zaklimot_tools.core.progress import Progress
 from zaklimot_tools.core.streams import counted, write, write_over
@@ -18,6 +20,14 @@ from .listing import Blessing, Row, RunScript, Tally, chosen, heading, listed
 Tell = Callable[[str], object]
 # So many reasons of refusals are told once each, and then again.
 MOST_WHYS = 1000
+# Lines of a terminal that a picture leaves to what stands around it.
+AROUND = 4
+# What COLORTERM says of a terminal with 24-bit colours; and what is told where it doesn't.
+COLOURS = ("truecolor", "24bit")
+WITHOUT_COLOURS = (
+    "vga-report: this terminal doesn't say that it has 24-bit colours (COLORTERM=truecolor). If the"
+    " blocks look wrong, open the pictures that --pictures FOLDER writes\n"
+)
 
 
 class Summary:
@@ -94,8 +104,15 @@ class StepList(Summary):
         why = self._new_why(row.why) if row.why else ""
         write(listed(row, is_wrong, self._width, path and f"  {path}", why))
         if self._shows and isinstance(row.step.picture, Picture):
-            columns = shutil.get_terminal_size((80, 24)).columns
-            write("".join(line + "\n" for line in block_lines(row.step.picture, columns)))
+            size = shutil.get_terminal_size()
+            lines = block_lines(row.step.picture, size.columns, size.lines - AROUND)
+            write("".join(line + "\n" for line in lines))
+
+    def end(self, tally: Tally) -> bool:
+        is_shown = self._shows and tally.pictures and sys.stdout.isatty()
+        if is_shown and os.environ.get("COLORTERM") not in COLOURS:
+            say(WITHOUT_COLOURS)
+        return super().end(tally)
 
     def _new_why(self, why: str) -> str:
         """Why a step was refused, where that was not told yet."""

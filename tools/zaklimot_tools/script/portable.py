@@ -5,6 +5,7 @@ import hashlib
 import os
 import shlex
 import shutil
+import stat
 import sys
 import tempfile
 import time
@@ -46,10 +47,10 @@ NO_COMPILER = (
     f" on macOS Xcode's command line tools (xcode-select --install), or name one by CC; {PAGE}"
 )
 COMPILES = (
-    "{compiler} compiles {told} from portable/ now, in about 20 seconds, and once: this {kind} is"
-    " tested, not proved\n"
+    "{compiler} compiles {told} from portable/ into {folder} now, in about 20 seconds, and once:"
+    " this {kind} is tested, not proved\n"
 )
-WAITS = "another run compiles the program vga from portable/ just now: this one waits for it\n"
+WAITS = "another run compiles from portable/ just now: this one waits for it\n"
 UNKEPT = (
     "the compiled program can't be kept there: name a folder that can be written by XDG_CACHE_HOME"
 )
@@ -130,13 +131,36 @@ def _compiler() -> list[str]:
 
 
 def cache_folder() -> Path:
-    """The folder of the user's cache for what the tools make or fetch once."""
+    """The folder for what the tools make or fetch once: in the user's cache, or among temporary
+    files where there is no home that can be written."""
+    return cache_home() / "zaklimot"
+
+
+def cache_home() -> Path:
+    """The folder that has it, of which other programs may have others: what XDG_CACHE_HOME
+    names."""
     named = os.environ.get("XDG_CACHE_HOME", "")
-    try:
-        # A path that is not absolute means nothing there.
-        return (Path(named) if os.path.isabs(named) else Path.home() / ".cache") / "zaklimot"
-    except RuntimeError as error:
-        raise Trouble(f"there is no home folder; {UNKEPT}") from error
+    # A path that is not absolute means nothing there.
+    if os.path.isabs(named):
+        return Path(named)
+    with suppress(RuntimeError, OSError):
+        home = Path.home() / ".cache"
+        home.mkdir(parents=True, exist_ok=True)
+        if os.access(home, os.W_OK):
+            return home
+    return _temporary_home()
+
+
+def _temporary_home() -> Path:
+    """A folder among temporary files that nobody else can write."""
+    user = os.getuid() if hasattr(os, "getuid") else 0
+    folder = Path(tempfile.gettempdir()) / f"zaklimot-{user}"
+    folder.mkdir(mode=0o700, exist_ok=True)
+    status = folder.lstat()
+    is_own = stat.S_ISDIR(status.st_mode) and getattr(status, "st_uid", user) == user
+    if not is_own or os.name == "posix" and status.st_mode & 0o022:
+        raise Trouble(f"others can write there; {UNKEPT}", str(folder))
+    return folder
 
 
 def _digest(compiler: list[str], product: Product) -> str:
@@ -182,8 +206,9 @@ def _compile(compiler: list[str], path: Path, product: Product) -> None:
     """Compiles the program or the library, tries a program, and only then puts it in its place.
     Others of its name there are removed."""
     kind = "program" if product.is_program else "library"
-    _say(COMPILES.format(compiler=shlex.join(compiler), told=product.told, kind=kind))
     kept = path.parent
+    given = {"compiler": shlex.join(compiler), "folder": kept.parent}
+    _say(COMPILES.format(**given, told=product.told, kind=kind))
     # A run that was killed may have left its folder.
     for left in (kept, *kept.parent.glob(f"{MAKING}*")):
         shutil.rmtree(left, ignore_errors=True)

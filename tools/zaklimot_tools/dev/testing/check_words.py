@@ -16,7 +16,7 @@ def _parser() -> argparse.ArgumentParser:
         "vga-check",
         (
             "Runs the suite and the tests of the tools over the portable program, which it compiles"
-            " once."
+            " once. Without --all it leaves out the tests that take longest."
         ),
         "tools/vga-check",
         "CONTRIBUTING.md",
@@ -24,6 +24,7 @@ def _parser() -> argparse.ArgumentParser:
     )
     told = "of the tests these modules alone, such as tests.test_trace (default: all)"
     parser.add_argument("modules", nargs="*", metavar="MODULE", help=told)
+    cli.add(parser, "--all", "runs the tests too that take longest: some 15 minutes of a processor")
     parser.set_defaults(job=_job("check"))
     return parser
 

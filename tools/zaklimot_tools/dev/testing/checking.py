@@ -1,5 +1,5 @@
-"""The test command for a machine without Rattle: the suite and the tools' tests, over the portable
-program."""
+"""The test command for a machine without Rattle: the suite and the tests of the tools, over the
+portable program."""
 
 from __future__ import annotations
 
@@ -15,7 +15,7 @@ from zaklimot_tools.core.progress import Progress
 from zaklimot_tools.core.trouble import AGREED as PASSED, DIFFERED as FAILED, TROUBLE, Trouble
 from zaklimot_tools.script.portable import portable_program
 
-from .running import TOOLS, Counts, run_modules
+from .running import TOOLS, Counts, run_tests
 
 # What the suite does may take so many seconds.
 MOST_SECONDS = 900
@@ -46,7 +46,7 @@ def check(words: argparse.Namespace, progress: Progress) -> int:
     program = portable_program()
     suite = check_suite(program)
     print(f"the suite over the portable program: {suite}", flush=True)
-    tests = run_modules(words.modules, program)
+    tests = run_tests(words.modules, program, progress, with_long=words.all)
     both = suite.beside(tests)
     print(
         f"that took {time.monotonic() - begun:.0f} seconds; the program is tested by this, and not"

@@ -1,32 +1,28 @@
-"""Runs the tests of the tools by pytest: all or some, some at a time, each within limits."""
+"""Runs the tests of the tools by the standard library: all or some, some at a time, each class in a
+process of its own."""
 
 from __future__ import annotations
 
 import argparse
-import importlib.util
-import json
+import multiprocessing
 import os
-import sys
 import tempfile
-from functools import partial
+import time
+import unittest
+from collections import Counter, deque
+from contextlib import suppress
+from multiprocessing.connection import Connection, wait
 from pathlib import Path
-from threading import Event
-from typing import BinaryIO, Mapping, NamedTuple, Optional, Sequence
+from typing import Iterable, Iterator, NamedTuple, Sequence
 
 from zaklimot_tools import TOP
-from zaklimot_tools.core.processes import (
-    ENDING,
-    Limits,
-    adopt_orphans,
-    end_children,
-    run,
-    run_command,
-)
-from zaklimot_tools.core.trouble import AGREED as PASSED, DIFFERED as FAILED, Trouble
-from zaklimot_tools.core.words import MEBIBYTE
-from zaklimot_tools.script.portable import portable_program
+from zaklimot_tools.core.processes import adopt_orphans, end_children
+from zaklimot_tools.core.progress import Progress
+from zaklimot_tools.core.trouble import AGREED, DIFFERED, Trouble
+from zaklimot_tools.script.portable import cache_home, portable_library, portable_program
 from zaklimot_tools.script.program import PROGRAM
 
+from .limiting import FAILED, PASSED, SKIPPED, Conclusion, run_limited
 
 TOOLS = TOP / "tools"
 HERE = TOOLS / "tests"
@@ -34,22 +30,17 @@ HERE = TOOLS / "tests"
 # gate sets once the program is built: a test that finds none fails then.
 TESTED = "ZAKLIMOT_TESTED_PROGRAM"
 BUILT = "ZAKLIMOT_PROGRAM_IS_BUILT"
-# So many tests run at a time at most, and so many seconds may all of them take.
+# So many processes run at a time at most, and so many seconds may all tests take.
 MOST_WORKERS = 4
 MOST_SECONDS = 7200
-# What the tests may print and say.
-MOST_OUTPUT = 64 * MEBIBYTE
-# What runs the tests. Debian's Python has both where Debian's packages are, and this one need not.
-PACKAGES = ("pytest", "xdist")
-DEBIANS = "/usr/bin/python3"
-MOST_IMPORTING = 60
-LACKING = (
-    "no Python here has pytest and pytest-xdist: install Debian's packages python3-pytest and"
-    " python3-pytest-xdist, or the two by pip"
-)
-# Tests go to the processes some at a time. Where a process crashes, a new one takes those that are
-# left. A test that is skipped is told with its reason, and nothing is left in the tests' folders.
-WORDS = "-q -rfEs --dist load -p no:cacheprovider -p zaklimot_tools.dev.testing.limiting"
+# Seconds between two looks whether a process has ended that no longer tells anything.
+PAUSE = 0.2
+# So much is shown of what tests print that have failed.
+MOST_SHOWN = 1 << 14
+FORKING = multiprocessing.get_context("fork")
+
+# Tests that run one after the other in one process.
+Batch = list[unittest.TestCase]
 
 
 class Counts(NamedTuple):
@@ -69,108 +60,211 @@ class Counts(NamedTuple):
         )
 
 
-def _show(file: BinaryIO) -> None:
-    """Shows what a file has gained that is written meanwhile."""
-    sys.stdout.buffer.write(file.read())
-    sys.stdout.buffer.flush()
+def _is_long(test: unittest.TestCase) -> bool:
+    """Whether a test is marked as one that only a run of all tests has."""
+    method = getattr(type(test), getattr(test, "_testMethodName", ""), None)
+    return bool(getattr(test, "is_long", False) or getattr(method, "is_long", False))
 
 
-def _python() -> str:
-    """A Python that has what runs the tests: this one, or else Debian's."""
-    if all(importlib.util.find_spec(name) for name in PACKAGES):
-        return sys.executable
-    try:
-        run([DEBIANS, "-c", f"import {', '.join(PACKAGES)}"], seconds=MOST_IMPORTING)
-    except Trouble as trouble:
-        raise Trouble(LACKING) from trouble
-    return DEBIANS
+def _flat(suite: Iterable[object]) -> Iterator[unittest.TestCase]:
+    for one in suite:
+        if isinstance(one, unittest.TestCase):
+            yield one
+        elif isinstance(one, unittest.TestSuite):
+            yield from _flat(one)
 
 
-def _place(name: str) -> str:
-    """What pytest calls a module, a class or a test with this name, whose parts have points between
-    them. A file stays as it is."""
-    if Path(name.partition("::")[0]).is_file():
-        return str(Path(name).absolute())
-    parts = name.split(".")
-    for count in range(len(parts), 0, -1):
-        file = TOOLS.joinpath(*parts[:count]).with_suffix(".py")
-        if file.is_file():
-            return "::".join((str(file), *parts[count:]))
-    raise Trouble("there is no such module of tests", name)
+def _found(names: Sequence[str]) -> Batch:
+    """The tests of modules, classes and methods of these names, or all."""
+    loader = unittest.TestLoader()
+    if names:
+        return list(_flat(loader.loadTestsFromNames(names)))
+    return list(_flat(loader.discover(str(HERE), top_level_dir=str(TOOLS))))
 
 
-def _counts(file: Path) -> Counts:
-    """The counts that the plugin has written; none where pytest has ended before."""
-    told = json.loads(file.read_text("ascii")) if file.exists() else {}
-    failed = told.get("failed", 0) + told.get("error", 0)
-    return Counts(told.get("passed", 0), failed, told.get("skipped", 0))
+def _setting_up(test: unittest.TestCase) -> object:
+    """What sets up the class of a test; nothing where that is what all classes have."""
+    own, usual = type(test).setUpClass, unittest.TestCase.setUpClass
+    made: object = getattr(own, "__func__", own)
+    return None if made is getattr(usual, "__func__") else made
 
 
-def run_modules(modules: Sequence[str], program: str, is_built: bool = False) -> Counts:
-    """Runs the tests of these modules, or of all, over a program, and shows what pytest tells. All
-    that they have started has ended afterwards."""
-    places = [_place(name) for name in modules] or [str(HERE)]
+def _batches(tests: Iterable[unittest.TestCase]) -> list[Batch]:
+    """The tests of a class run together, and with them those of other classes of its module that
+    are set up alike. Long ones that share nothing run alone, and first."""
+    made: dict[tuple[object, ...], Batch] = {}
+    for test in tests:
+        shared = _setting_up(test)
+        alone = test.id() if shared is None and _is_long(test) else ""
+        key = (type(test).__module__, shared or type(test), alone)
+        made.setdefault(key, []).append(test)
+    return sorted(made.values(), key=lambda batch: not _is_long(batch[0]))
+
+
+class _Worker:
+    """A process that runs some tests, and tells how each of them ended."""
+
+    def __init__(self, batch: Batch, folder: Path) -> None:
+        self._left = deque(batch)
+        self._output = tempfile.TemporaryFile(dir=folder)
+        self.receiver: Connection
+        self.receiver, sender = FORKING.Pipe(duplex=False)
+        words = (batch, self._output.fileno(), sender.send)
+        self._process = FORKING.Process(target=run_limited, args=words)
+        self._process.start()
+        sender.close()
+
+    def told(self) -> Iterator[Conclusion]:
+        """What it has told since it was asked last."""
+        try:
+            while self.receiver.poll():
+                one: Conclusion = self.receiver.recv()
+                if self._left and self._left[0].id() == one.test:
+                    self._left.popleft()
+                yield one if one.how != FAILED else one._replace(told=one.told + self._shown())
+        except EOFError:
+            self._process.join()
+
+    def has_ended(self) -> bool:
+        return not self._process.is_alive()
+
+    def left(self) -> Batch:
+        """The tests that it has not told of."""
+        return list(self._left)
+
+    def crash(self) -> Conclusion:
+        """What is told of the test that ended the process."""
+        told = f"its process ended with status {self._process.exitcode}\n{self._shown()}"
+        return Conclusion(self._left.popleft().id(), FAILED, told)
+
+    def _shown(self) -> str:
+        """The end of what the tests have printed."""
+        file = self._output
+        size = os.fstat(file.fileno()).st_size
+        text = os.pread(file.fileno(), MOST_SHOWN, max(0, size - MOST_SHOWN))
+        return text.decode("utf-8", "replace")
+
+    def close(self) -> None:
+        self.receiver.close()
+        self._output.close()
+
+
+def _run_all(batches: Iterable[Batch], jobs: int, folder: Path) -> Iterator[Conclusion]:
+    """How the tests ended, as they do. Where a process ends amid its tests, another one takes those
+    that are left."""
+    waiting = deque(batches)
+    workers: list[_Worker] = []
+    until = time.monotonic() + MOST_SECONDS
+    while waiting or workers:
+        while waiting and len(workers) < jobs:
+            workers.append(_Worker(waiting.popleft(), folder))
+        wait([worker.receiver for worker in workers], PAUSE)
+        for worker in list(workers):
+            has_ended = worker.has_ended()
+            yield from worker.told()
+            if has_ended:
+                workers.remove(worker)
+                if worker.left():
+                    yield worker.crash()
+                if worker.left():
+                    waiting.append(worker.left())
+                worker.close()
+        if time.monotonic() > until:
+            raise Trouble(f"the tests take more than {MOST_SECONDS} seconds")
+
+
+def _given(folder: Path, program: str, is_built: bool) -> dict[str, str]:
+    """The variables of the tests' processes."""
+    (folder / "temporary").mkdir()
+    return {
+        # The tools that tests start are compiled once, and not at each start.
+        "PYTHONDONTWRITEBYTECODE": "",
+        "PYTHONPYCACHEPREFIX": str(folder / "compiled"),
+        "HYPOTHESIS_STORAGE_DIRECTORY": str(folder / "hypothesis"),
+        # What an ended test leaves goes with the folder.
+        "TMPDIR": str(folder / "temporary"),
+        # What was compiled once is found wherever temporary files lie.
+        "XDG_CACHE_HOME": str(cache_home()),
+        TESTED: program,
+        BUILT: "1" if is_built else "",
+    }
+
+
+def _class_of(name: str) -> str:
+    """The class of a test, by the test's name; or the module, of one that is skipped as a whole."""
+    whole = name.rpartition("ModuleSkipped.")[2]
+    return name.rpartition(".")[0] if whole == name else whole
+
+
+def _tell(conclusions: Iterable[Conclusion], total: int, progress: Progress) -> Counts:
+    """Tells what failed as it comes, at the end what was skipped; the counts."""
+    counts: Counter[str] = Counter()
+    skipped: Counter[tuple[str, str]] = Counter()
+    for one in conclusions:
+        counts[one.how] += 1
+        if one.how == FAILED:
+            progress.clear()
+            print(f"failed  {one.test}\n{one.told.rstrip()}\n", flush=True)
+        elif one.how == SKIPPED:
+            skipped[_class_of(one.test), one.told] += 1
+        if progress.is_due():
+            failed = f", {counts[FAILED]} failed" if counts[FAILED] else ""
+            progress.tell(f"{sum(counts.values())} of {total} tests{failed}: {one.test}")
+    progress.clear()
+    for (name, reason), count in sorted(skipped.items()):
+        print(
+            f"skipped  {name}, {count} tests: {reason}"
+            if count > 1
+            else f"skipped  {name}: {reason}"
+        )
+    return Counts(counts[PASSED], counts[FAILED], counts[SKIPPED])
+
+
+def run_tests(
+    names: Sequence[str],
+    program: str,
+    progress: Progress,
+    is_built: bool = False,
+    with_long: bool = True,
+) -> Counts:
+    """Runs the tests of these names, or all, over a program, and tells which failed and which were
+    skipped. All that they have started has ended afterwards."""
+    # The tests want the library too, and what they run must not tell that it is being compiled.
+    with suppress(Trouble):
+        portable_library()
     adopt_orphans()
     with tempfile.TemporaryDirectory(prefix="vga-tests-") as name:
         folder = Path(name)
-        given = {
-            # The tools that tests start are compiled once, and not at each start.
-            "PYTHONDONTWRITEBYTECODE": "",
-            "PYTHONPYCACHEPREFIX": str(folder / "compiled"),
-            "HYPOTHESIS_STORAGE_DIRECTORY": str(folder / "hypothesis"),
-            # What an ended test leaves goes with the folder.
-            "TMPDIR": str(folder / "temporary"),
-            TESTED: program,
-            BUILT: "1" if is_built else "",
-        }
-        (folder / "temporary").mkdir()
+        os.environ.update(_given(folder, program, is_built))
+        found = _found(names)
+        tests = [test for test in found if with_long or names or not _is_long(test)]
+        if not tests:
+            raise Trouble("there is no test", " ".join(names) or str(HERE))
         # One module takes one processor: the gate runs other work beside it.
-        workers = min(MOST_WORKERS, os.cpu_count() or 1, len(modules) or MOST_WORKERS)
-        words = [_python(), "-m", "pytest", *WORDS.split(), "-n", str(workers)]
-        words += ["--counts", str(folder / "counts"), *places]
+        jobs = min(MOST_WORKERS, os.cpu_count() or 1, len(names) or MOST_WORKERS)
         try:
-            status = _shown(words, folder, {**os.environ, **given})
+            counts = _tell(_run_all(_batches(tests), jobs, folder), len(tests), progress)
         finally:
             end_children()
-        counts = _counts(folder / "counts")
-    if not any(counts):
-        raise Trouble(f"pytest has run no test, and ended with status {status}")
-    # Where pytest has ended badly, that is no test, and has failed all the same.
-    return counts._replace(failed=counts.failed or int(status != 0))
-
-
-def _shown(words: Sequence[str], folder: Path, environment: Mapping[str, str]) -> Optional[int]:
-    """The status of a command that runs within limits, whose output is shown as it comes."""
-    output = folder / "output"
-    output.touch()
-    limits = Limits(MOST_SECONDS, MOST_OUTPUT, MOST_OUTPUT)
-    with open(output, "rb") as file:
-        show = partial(_show, file)
-        # `-m` finds the modules of this folder. The tests' own processes are to find theirs.
-        around = {"cwd": str(TOOLS), "env": environment}
-        outcome = run_command(
-            words, output, folder / "said", limits, Event(), show, ENDING, **around
-        )
-        show()
-    print((folder / "said").read_text("utf-8", "replace") + outcome.reason, end="", flush=True)
-    return outcome.status
+    if len(tests) < len(found):
+        print(f"{len(found) - len(tests)} tests that take longer are left to --all")
+    return counts
 
 
 def _tested(parsed: argparse.Namespace) -> str:
     """The program that is tested: the proved one, or else the portable one. Where there is none,
     tests are skipped."""
-    given = os.environ.get(TESTED)
     if parsed.built or os.access(PROGRAM, os.X_OK):
         return str(PROGRAM)
     try:
-        return given or portable_program()
+        return os.environ.get(TESTED) or portable_program()
     except Trouble as trouble:
         print(f"tests that want the program are skipped: {trouble}")
         return str(PROGRAM)
 
 
-def run_tests(parsed: argparse.Namespace, _: object) -> int:
+def run(parsed: argparse.Namespace, progress: Progress) -> int:
     """Runs tests; whether each has passed."""
-    counts = run_modules(parsed.modules, _tested(parsed), parsed.built)
+    counts = run_tests(parsed.modules, _tested(parsed), progress, parsed.built)
     print(counts)
-    return FAILED if counts.failed else PASSED
+    return DIFFERED if counts.failed else AGREED

@@ -14,7 +14,7 @@ _job = partial(later, "zaklimot_tools.dev.testing.running")
 def _parser() -> argparse.ArgumentParser:
     parser = cli.tool_parser(
         "tests-of-tools",
-        "Runs the tests of the tools by pytest, some at a time.",
+        "Runs the tests of the tools, some at a time.",
         "tools/tests-of-tools tests.test_trace",
         "tools/README.md",
         cli.JUDGES,
@@ -26,7 +26,7 @@ def _parser() -> argparse.ArgumentParser:
         "--built",
         "fails where the proved program isn't built; else the portable one is tested there",
     )
-    parser.set_defaults(job=_job("run_tests"))
+    parser.set_defaults(job=_job("run"))
     return parser
 
 
