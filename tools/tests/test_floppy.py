@@ -634,17 +634,24 @@ class Runs(Folder):
     )
     def test_how_long_a_process_waits(self) -> None:
         code = "import os, time; os.sched_setaffinity(0, {min(os.sched_getaffinity(0))})\n"
+        begun = self.folder / "begun"
         # Of three that want one processor all the time two wait, and one that sleeps doesn't.
         with ExitStack() as stack:
-            *busy, asleep = (
+            asleep, *busy = (
                 stack.enter_context(started([sys.executable, "-S", "-c", code + rest])).pid
-                for rest in 3 * ["while True: pass"] + ["time.sleep(100)"]
+                for rest in (
+                    f"open('{begun}', 'w').write('1\\n'); time.sleep(100)",
+                    *3 * ["while True: pass"],
+                )
             )
+            self.wait_for(begun)
+            # A busy machine may have let it wait until it slept.
+            before = running.waited(asleep)
             began = time.monotonic()
             self.wait_until(lambda: sum(map(running.waited, busy)) > 5)
             # Together they could run for as long as has passed, and no longer.
             self.assertLess(1.3 * (time.monotonic() - began), 5)
-            self.assertLess(running.waited(asleep), 1)
+            self.assertLess(running.waited(asleep) - before, 1)
         self.assertEqual(running.waited(asleep), 0)
 
     @unittest.skipUnless(

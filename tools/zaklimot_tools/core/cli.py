@@ -139,8 +139,17 @@ class later:
         self._name = name
 
     def found(self) -> Job:
-        """The function."""
-        job: Job = getattr(importlib.import_module(self._module), self._name)
+        """The function. A signal ends the tool at once meanwhile: nothing has begun, and an import
+        may lose what a signal raises."""
+        handlers = {number: signal.getsignal(number) for number in ending_signals()}
+        heeded = {number: handler for number, handler in handlers.items() if callable(handler)}
+        for number in heeded:
+            signal.signal(number, signal.SIG_DFL)
+        try:
+            job: Job = getattr(importlib.import_module(self._module), self._name)
+        finally:
+            for number, handler in heeded.items():
+                signal.signal(number, handler)
         return job
 
     def __call__(self, words: argparse.Namespace, progress: Progress) -> Optional[int]:

@@ -44,7 +44,10 @@ def check(words: argparse.Namespace, progress: Progress) -> int:
     """Runs the suite and the tests over the portable program, and tells what they find."""
     begun = time.monotonic()
     program = portable_program()
+    if progress.is_wanted:
+        progress.tell("the suite over the portable program, in about 15 seconds")
     suite = check_suite(program)
+    progress.clear()
     print(f"the suite over the portable program: {suite}", flush=True)
     tests = run_tests(words.modules, program, progress, with_long=words.all)
     both = suite.beside(tests)
