@@ -24,7 +24,8 @@ def _parser() -> argparse.ArgumentParser:
     )
     told = "of the tests these modules alone, such as tests.test_trace (default: all)"
     parser.add_argument("modules", nargs="*", metavar="MODULE", help=told)
-    cli.add(parser, "--all", "runs the tests too that take longest: some 15 minutes of a processor")
+    told = "runs the tests that take longest too, in 10 to 15 minutes on two processors"
+    cli.add(parser, "--all", told)
     parser.set_defaults(job=_job("check"))
     return parser
 
