@@ -553,7 +553,8 @@ class Running(Folder):
         # A process of a group of its own, whose parent has ended.
         number = self.folder / "number"
         line = f"os.system('setsid sh -c \\'sleep 600 & echo $! > {number}\\' &')"
-        waiting = f"while not os.path.exists('{number}'): pass"
+        # The file is there before the number stands in it.
+        waiting = f"while not (os.path.exists('{number}') and os.path.getsize('{number}')): pass"
         # The next test sees none of it: it has ended with its own test.
         seen = f"assert not tools.is_running(int(open('{number}').read()))"
         status, said = self.run_tests(leaves=f"{line}\n        {waiting}", sees=seen)
