@@ -19,7 +19,7 @@
  */
 
 #define FIRST_PAGES 17u
-#define HEAP_BASE 1052096u
+#define HEAP_BASE 1052112u
 #define MODULE_GLOBALS u64 g0;
 
 #include <stdlib.h>
@@ -24578,7 +24578,7 @@ static void f23(module *self, u64 p0, u64 p1, u32 p2) {
   j0 = l3;
   i0 = (u32)(j0);
   i1 = 0u;
-  i32_store16(j0 + 138, i1);
+  i32_store8(j0 + 139, i1);
   j0 = l3;
   i0 = (u32)(j0);
   i1 = 255u;
@@ -24626,19 +24626,19 @@ static void f23(module *self, u64 p0, u64 p1, u32 p2) {
   j0 = l3;
   i0 = (u32)(j0);
   j1 = p1;
-  j2 = 132ull;
-  j1 += j2;
-  i1 = (u32)(j1);
-  j1 = i64_load(j1);
-  i64_store(j0 + 140, j1);
-  j0 = l3;
-  i0 = (u32)(j0);
-  j1 = p1;
   j2 = 138ull;
   j1 += j2;
   i1 = (u32)(j1);
   j1 = i64_load(j1);
   i64_store(j0 + 146, j1);
+  j0 = l3;
+  i0 = (u32)(j0);
+  j1 = p1;
+  j2 = 132ull;
+  j1 += j2;
+  i1 = (u32)(j1);
+  j1 = i64_load(j1);
+  i64_store(j0 + 140, j1);
   j0 = l3;
   i0 = (u32)(j0);
   j1 = p1;
@@ -30989,7 +30989,7 @@ static void f29(module *self, u64 p0, u64 p1, u64 p2) {
   j1 <<= (j2 & 63);
   l4 = j1;
   i1 = (u32)(j1);
-  i1 = i32_load(j1 + 1051784u);
+  i1 = i32_load(j1 + 1051804u);
   i32_store(j0, i1);
   j0 = p0;
   j1 = 60ull;
@@ -30997,7 +30997,7 @@ static void f29(module *self, u64 p0, u64 p1, u64 p2) {
   i0 = (u32)(j0);
   j1 = l4;
   i1 = (u32)(j1);
-  i1 = i32_load(j1 + 1051768u);
+  i1 = i32_load(j1 + 1051788u);
   i32_store(j0, i1);
   j0 = p0;
   j1 = 72ull;
@@ -31476,20 +31476,20 @@ static void f30(module *self, u64 p0, u64 p1, u64 p2, u64 p3, u64 p4, u64 p5, u6
       l15 = 0, l16 = 0, l17 = 0;
   u8 *m = self->memory;
   u32 i0, i1, i2, i3, i4, i5, i6;
-  u64 j0, j1, j2, j3, j4, j5, j6;
+  u64 j0, j1, j2, j3, j4, j5;
   j0 = self->g0;
-  j1 = 320ull;
+  j1 = 336ull;
   j0 -= j1;
   l7 = j0;
   self->g0 = j0;
   j0 = l7;
-  j1 = 168ull;
+  j1 = 160ull;
   j0 += j1;
   j1 = p4;
   f21(self, j0, j1);
   j0 = l7;
   i0 = (u32)(j0);
-  i0 = i32_load8_u(j0 + 168u);
+  i0 = i32_load8_u(j0 + 160u);
   if (i0) {goto B4;}
   i0 = 3u;
   i1 = 2u;
@@ -31502,7 +31502,7 @@ static void f30(module *self, u64 p0, u64 p1, u64 p2, u64 p3, u64 p4, u64 p5, u6
   B4:;
   j0 = l7;
   i0 = (u32)(j0);
-  j0 = i64_load8_u(j0 + 170u);
+  j0 = i64_load8_u(j0 + 162u);
   i0 = (u32)(j0);
   switch (i0) {
     case 0: goto B15;
@@ -31516,7 +31516,7 @@ static void f30(module *self, u64 p0, u64 p1, u64 p2, u64 p3, u64 p4, u64 p5, u6
   l19 = i0;
   j0 = l7;
   i0 = (u32)(j0);
-  i0 = i32_load8_u(j0 + 172u);
+  i0 = i32_load8_u(j0 + 164u);
   l20 = i0;
   i0 = 1u;
   l21 = i0;
@@ -31602,7 +31602,7 @@ static void f30(module *self, u64 p0, u64 p1, u64 p2, u64 p3, u64 p4, u64 p5, u6
   l59 = i0;
   j0 = l7;
   i0 = (u32)(j0);
-  i0 = i32_load8_u(j0 + 171u);
+  i0 = i32_load8_u(j0 + 163u);
   l60 = i0;
   l61 = i0;
   i0 = 2u;
@@ -32047,14 +32047,14 @@ static void f30(module *self, u64 p0, u64 p1, u64 p2, u64 p3, u64 p4, u64 p5, u6
   B21:;
   j0 = l7;
   i0 = (u32)(j0);
-  i0 = i32_load8_u(j0 + 172u);
+  i0 = i32_load8_u(j0 + 164u);
   i0 = !(i0);
   if (i0) {goto B23;}
   i0 = 9u;
   l27 = i0;
   j0 = l7;
   i0 = (u32)(j0);
-  i0 = i32_load16_u(j0 + 174u);
+  i0 = i32_load16_u(j0 + 166u);
   l40 = i0;
   i1 = 255u;
   i0 = i0 <= i1;
@@ -32076,18 +32076,18 @@ static void f30(module *self, u64 p0, u64 p1, u64 p2, u64 p3, u64 p4, u64 p5, u6
   l8 = j0;
   i0 = (u32)(j0);
   j0 = i64_load(j0);
-  p6 = j0;
+  p5 = j0;
   j1 = 16777216ull;
   i0 = j0 > j1;
   if (i0) {goto B24;}
   j0 = l8;
   i0 = (u32)(j0);
-  j1 = p6;
+  j1 = p5;
   j2 = 3ull;
   j1 += j2;
-  p6 = j1;
+  p5 = j1;
   i64_store(j0, j1);
-  j0 = p6;
+  j0 = p5;
   j1 = p1;
   j2 = 2104ull;
   j1 += j2;
@@ -32101,7 +32101,7 @@ static void f30(module *self, u64 p0, u64 p1, u64 p2, u64 p3, u64 p4, u64 p5, u6
   l9 = j0;
   i0 = (u32)(j0);
   j0 = i64_load(j0);
-  p5 = j0;
+  p6 = j0;
   j1 = p1;
   j2 = 2080ull;
   j1 += j2;
@@ -32125,7 +32125,7 @@ static void f30(module *self, u64 p0, u64 p1, u64 p2, u64 p3, u64 p4, u64 p5, u6
   j0 += j1;
   i0 = (u32)(j0);
   j0 = i64_load(j0);
-  p5 = j0;
+  p6 = j0;
   j0 = p1;
   j1 = 2080ull;
   j0 += j1;
@@ -32142,7 +32142,7 @@ static void f30(module *self, u64 p0, u64 p1, u64 p2, u64 p3, u64 p4, u64 p5, u6
   p2 = j0;
   j1 = l8;
   j0 += j1;
-  p6 = j0;
+  p5 = j0;
   i0 = (u32)(j0);
   i1 = l27;
   i2 = 65280u;
@@ -32150,17 +32150,17 @@ static void f30(module *self, u64 p0, u64 p1, u64 p2, u64 p3, u64 p4, u64 p5, u6
   i2 = 8u;
   i1 >>= (i2 & 31);
   i32_store8(j0 + 2, i1);
-  j0 = p6;
+  j0 = p5;
   i0 = (u32)(j0);
   i1 = l27;
   i32_store8(j0 + 1, i1);
-  j0 = p6;
+  j0 = p5;
   i0 = (u32)(j0);
   i1 = 3u;
   i32_store8(j0, i1);
   j0 = l9;
   i0 = (u32)(j0);
-  j1 = p5;
+  j1 = p6;
   i64_store(j0, j1);
   j0 = l10;
   i0 = (u32)(j0);
@@ -32277,7 +32277,7 @@ static void f30(module *self, u64 p0, u64 p1, u64 p2, u64 p3, u64 p4, u64 p5, u6
   j2 = 255ull;
   j1 &= j2;
   j0 |= j1;
-  p6 = j0;
+  p5 = j0;
   i0 = l31;
   j0 = (u64)(i0);
   j1 = 56ull;
@@ -32357,20 +32357,20 @@ static void f30(module *self, u64 p0, u64 p1, u64 p2, u64 p3, u64 p4, u64 p5, u6
   j0 = 0ull;
   l9 = j0;
   j0 = 0ull;
-  p6 = j0;
+  p5 = j0;
   j0 = l7;
   i0 = (u32)(j0);
-  i0 = i32_load16_u(j0 + 176u);
+  i0 = i32_load16_u(j0 + 168u);
   l68 = i0;
   i1 = l40;
   i0 += i1;
-  i1 = 256u;
-  i0 = i0 > i1;
+  i1 = 257u;
+  i0 = i0 >= i1;
   if (i0) {goto B9;}
   i0 = l68;
   if (i0) {goto B27;}
   j0 = 0ull;
-  p6 = j0;
+  p5 = j0;
   j0 = 0ull;
   l9 = j0;
   goto B26;
@@ -32382,7 +32382,7 @@ static void f30(module *self, u64 p0, u64 p1, u64 p2, u64 p3, u64 p4, u64 p5, u6
   j1 = (u64)(i1);
   j2 = 3ull;
   j1 *= j2;
-  p5 = j1;
+  p6 = j1;
   j2 = 1ull;
   f164(self, j0, j1, j2); m = self->memory; if (NEVER(self->is_broken)) return;
   i0 = 1u;
@@ -32401,21 +32401,21 @@ static void f30(module *self, u64 p0, u64 p1, u64 p2, u64 p3, u64 p4, u64 p5, u6
   i0 = (u32)(j0);
   j0 = i64_load(j0 + 48u);
   l9 = j0;
-  j0 = p5;
+  j0 = p6;
   j1 = 18446744073709551615ull;
   j0 += j1;
-  p6 = j0;
+  p5 = j0;
   i0 = !(j0);
   if (i0) {goto B28;}
   j0 = l9;
   i0 = (u32)(j0);
   i1 = 0u;
-  j2 = p6;
+  j2 = p5;
   i2 = (u32)(j2);
   memory_fill(j0, i1, j2);
   B28:;
   j0 = l9;
-  j1 = p6;
+  j1 = p5;
   j0 += j1;
   i0 = (u32)(j0);
   i1 = 0u;
@@ -32442,15 +32442,15 @@ static void f30(module *self, u64 p0, u64 p1, u64 p2, u64 p3, u64 p4, u64 p5, u6
   j0 = l7;
   i0 = (u32)(j0);
   j0 = i64_load(j0 + 32u);
-  p6 = j0;
+  p5 = j0;
   i0 = (u32)(j0);
-  j1 = p5;
+  j1 = p6;
   i64_store(j0 + 16, j1);
-  j0 = p6;
+  j0 = p5;
   i0 = (u32)(j0);
-  j1 = p5;
+  j1 = p6;
   i64_store(j0 + 8, j1);
-  j0 = p6;
+  j0 = p5;
   i0 = (u32)(j0);
   j1 = l9;
   i64_store(j0, j1);
@@ -32463,18 +32463,18 @@ static void f30(module *self, u64 p0, u64 p1, u64 p2, u64 p3, u64 p4, u64 p5, u6
   l8 = j0;
   i0 = (u32)(j0);
   j0 = i64_load(j0);
-  p5 = j0;
+  p6 = j0;
   j1 = 16777216ull;
   i0 = j0 > j1;
   if (i0) {goto B30;}
   j0 = l8;
   i0 = (u32)(j0);
-  j1 = p5;
+  j1 = p6;
   j2 = 4ull;
   j1 += j2;
-  p5 = j1;
+  p6 = j1;
   i64_store(j0, j1);
-  j0 = p5;
+  j0 = p6;
   j1 = p1;
   j2 = 2104ull;
   j1 += j2;
@@ -32488,7 +32488,7 @@ static void f30(module *self, u64 p0, u64 p1, u64 p2, u64 p3, u64 p4, u64 p5, u6
   l10 = j0;
   i0 = (u32)(j0);
   j0 = i64_load(j0);
-  p5 = j0;
+  p6 = j0;
   j1 = p1;
   j2 = 2080ull;
   j1 += j2;
@@ -32512,7 +32512,7 @@ static void f30(module *self, u64 p0, u64 p1, u64 p2, u64 p3, u64 p4, u64 p5, u6
   j0 += j1;
   i0 = (u32)(j0);
   j0 = i64_load(j0);
-  p5 = j0;
+  p6 = j0;
   j0 = p1;
   j1 = 2080ull;
   j0 += j1;
@@ -32538,7 +32538,7 @@ static void f30(module *self, u64 p0, u64 p1, u64 p2, u64 p3, u64 p4, u64 p5, u6
   i32_store(j0, i1);
   j0 = l10;
   i0 = (u32)(j0);
-  j1 = p5;
+  j1 = p6;
   i64_store(j0, j1);
   j0 = l11;
   i0 = (u32)(j0);
@@ -32570,7 +32570,7 @@ static void f30(module *self, u64 p0, u64 p1, u64 p2, u64 p3, u64 p4, u64 p5, u6
   i0 = l68;
   i0 = !(i0);
   if (i0) {goto B32;}
-  j0 = p6;
+  j0 = p5;
   j1 = 8ull;
   j0 += j1;
   i0 = (u32)(j0);
@@ -32596,14 +32596,14 @@ static void f30(module *self, u64 p0, u64 p1, u64 p2, u64 p3, u64 p4, u64 p5, u6
     j0 = p1;
     j1 = 2096ull;
     j0 += j1;
-    p5 = j0;
+    p6 = j0;
     i0 = (u32)(j0);
     j0 = i64_load(j0);
     l10 = j0;
     j1 = 16777216ull;
     i0 = j0 > j1;
     if (i0) {goto B34;}
-    j0 = p5;
+    j0 = p6;
     i0 = (u32)(j0);
     j1 = l10;
     j2 = 3ull;
@@ -32631,7 +32631,7 @@ static void f30(module *self, u64 p0, u64 p1, u64 p2, u64 p3, u64 p4, u64 p5, u6
     l12 = j1;
     i1 = (u32)(j1);
     j1 = i64_load(j1);
-    p5 = j1;
+    p6 = j1;
     j0 -= j1;
     j1 = 2ull;
     i0 = j0 > j1;
@@ -32654,7 +32654,7 @@ static void f30(module *self, u64 p0, u64 p1, u64 p2, u64 p3, u64 p4, u64 p5, u6
     j0 += j1;
     i0 = (u32)(j0);
     j0 = i64_load(j0);
-    p5 = j0;
+    p6 = j0;
     B35:;
     j0 = p1;
     j1 = 2072ull;
@@ -32663,7 +32663,7 @@ static void f30(module *self, u64 p0, u64 p1, u64 p2, u64 p3, u64 p4, u64 p5, u6
     i0 = (u32)(j0);
     j0 = i64_load(j0);
     l16 = j0;
-    j1 = p5;
+    j1 = p6;
     j0 += j1;
     l17 = j0;
     i0 = (u32)(j0);
@@ -32679,7 +32679,7 @@ static void f30(module *self, u64 p0, u64 p1, u64 p2, u64 p3, u64 p4, u64 p5, u6
     i64_store(j0, j1);
     j0 = l12;
     i0 = (u32)(j0);
-    j1 = p5;
+    j1 = p6;
     j2 = 3ull;
     j1 += j2;
     i64_store(j0, j1);
@@ -32698,7 +32698,7 @@ static void f30(module *self, u64 p0, u64 p1, u64 p2, u64 p3, u64 p4, u64 p5, u6
     j0 = (u64)(i0);
     j1 = 255ull;
     j0 &= j1;
-    p5 = j0;
+    p6 = j0;
     j0 = p1;
     j1 = 1999ull;
     j0 += j1;
@@ -32719,7 +32719,7 @@ static void f30(module *self, u64 p0, u64 p1, u64 p2, u64 p3, u64 p4, u64 p5, u6
     i1 += i2;
     i32_store8(j0, i1);
     j0 = p3;
-    j1 = p5;
+    j1 = p6;
     j0 += j1;
     i0 = (u32)(j0);
     i0 = i32_load8_u(j0);
@@ -32729,7 +32729,7 @@ static void f30(module *self, u64 p0, u64 p1, u64 p2, u64 p3, u64 p4, u64 p5, u6
     goto B36;
     B38:;
     j0 = l14;
-    j1 = p5;
+    j1 = p6;
     j0 += j1;
     i0 = (u32)(j0);
     i0 = i32_load8_u(j0);
@@ -32739,7 +32739,7 @@ static void f30(module *self, u64 p0, u64 p1, u64 p2, u64 p3, u64 p4, u64 p5, u6
     goto B36;
     B37:;
     j0 = l13;
-    j1 = p5;
+    j1 = p6;
     j0 += j1;
     i0 = (u32)(j0);
     i0 = i32_load8_u(j0);
@@ -32753,7 +32753,7 @@ static void f30(module *self, u64 p0, u64 p1, u64 p2, u64 p3, u64 p4, u64 p5, u6
     i0 = (u32)(j0);
     i1 = l27;
     i32_store8(j0, i1);
-    j0 = p6;
+    j0 = p5;
     i0 = (u32)(j0);
     j0 = i64_load(j0);
     j1 = l8;
@@ -32793,6 +32793,8 @@ static void f30(module *self, u64 p0, u64 p1, u64 p2, u64 p3, u64 p4, u64 p5, u6
   B13:;
   j0 = 0ull;
   l8 = j0;
+  i0 = 1u;
+  l58 = i0;
   j0 = p2;
   i0 = (u32)(j0);
   i0 = i32_load8_u(j0);
@@ -32800,78 +32802,66 @@ static void f30(module *self, u64 p0, u64 p1, u64 p2, u64 p3, u64 p4, u64 p5, u6
   if (i0) {goto B40;}
   i0 = 2u;
   l18 = i0;
-  i0 = 1u;
-  l58 = i0;
   goto B1;
   B40:;
-  j0 = l7;
-  i0 = (u32)(j0);
-  j0 = i64_load(j0 + 172u);
-  l9 = j0;
-  j1 = 32ull;
-  j0 >>= (j1 & 63);
-  l10 = j0;
-  i0 = 5u;
-  l59 = i0;
-  i0 = 1u;
-  l58 = i0;
   i0 = l27;
   i1 = 4294967293u;
   i0 += i1;
   i1 = 251u;
   i0 &= i1;
+  i0 = !(i0);
   if (i0) {goto B41;}
-  i0 = 8u;
-  i1 = 0u;
-  j2 = l10;
-  i2 = (u32)(j2);
-  i3 = 65535u;
-  i2 &= i3;
-  j3 = l9;
-  i3 = (u32)(j3);
-  i4 = 16u;
-  i3 >>= (i4 & 31);
-  i2 += i3;
-  i3 = 256u;
-  i2 = i2 > i3;
-  l58 = i2;
-  i0 = i2 ? i0 : i1;
-  l59 = i0;
+  i0 = 5u;
+  l18 = i0;
+  goto B1;
   B41:;
-  i0 = l58;
-  i1 = l58;
-  j2 = p6;
-  j3 = l9;
-  j4 = 15ull;
-  j3 <<= (j4 & 63);
-  j4 = 63ull;
-  j3 = (u64)((s64)j3 >> (j4 & 63));
-  j4 = l10;
-  j5 = 65535ull;
-  j4 &= j5;
-  j5 = l9;
-  j6 = 255ull;
-  j5 &= j6;
-  j4 *= j5;
-  j3 &= j4;
-  i2 = j2 != j3;
-  l18 = i2;
-  j3 = l9;
-  j4 = 281474976710656ull;
-  j3 &= j4;
-  i3 = !(j3);
-  l21 = i3;
-  i1 = i3 ? i1 : i2;
-  i0 |= i1;
-  i1 = 1u;
-  i0 &= i1;
-  if (i0) {goto B42;}
   j0 = l7;
-  j1 = 184ull;
+  i0 = (u32)(j0);
+  j0 = i64_load(j0 + 164u);
+  l9 = j0;
+  j1 = 32ull;
+  j0 >>= (j1 & 63);
+  l10 = j0;
+  i0 = (u32)(j0);
+  i1 = 65535u;
+  i0 &= i1;
+  j1 = l9;
+  i1 = (u32)(j1);
+  l59 = i1;
+  i2 = 16u;
+  i1 >>= (i2 & 31);
+  i0 += i1;
+  i1 = 256u;
+  i0 = i0 <= i1;
+  if (i0) {goto B42;}
+  i0 = 8u;
+  l18 = i0;
+  goto B1;
+  B42:;
+  j0 = l9;
+  j1 = 281474976710656ull;
+  j0 &= j1;
+  i0 = !(j0);
+  if (i0) {goto B43;}
+  j0 = p6;
+  j1 = l10;
+  j2 = 65535ull;
+  j1 &= j2;
+  j2 = l9;
+  j3 = 255ull;
+  j2 &= j3;
+  j1 *= j2;
+  i0 = j0 == j1;
+  if (i0) {goto B43;}
+  i0 = 10u;
+  l18 = i0;
+  goto B1;
+  B43:;
+  j0 = l7;
+  j1 = 176ull;
   j0 += j1;
   i1 = l27;
-  j2 = l9;
-  i2 = (u32)(j2);
+  i2 = l59;
   i3 = 255u;
   i2 &= i3;
   f25(self, j0, i1, i2);
@@ -32879,47 +32869,47 @@ static void f30(module *self, u64 p0, u64 p1, u64 p2, u64 p3, u64 p4, u64 p5, u6
   l21 = i0;
   j0 = l7;
   i0 = (u32)(j0);
-  i0 = i32_load8_u(j0 + 184u);
+  i0 = i32_load8_u(j0 + 176u);
   i1 = 1u;
   i0 = i0 == i1;
-  if (i0) {goto B43;}
+  if (i0) {goto B44;}
   j0 = 0ull;
   l8 = j0;
   i0 = 12u;
   l18 = i0;
   goto B5;
-  B43:;
+  B44:;
   j0 = l7;
   i0 = (u32)(j0);
-  i0 = i32_load8_u(j0 + 255u);
+  i0 = i32_load8_u(j0 + 247u);
   l24 = i0;
   j0 = l7;
   i0 = (u32)(j0);
-  i0 = i32_load8_u(j0 + 256u);
+  i0 = i32_load8_u(j0 + 248u);
   l73 = i0;
   j0 = l7;
   i0 = (u32)(j0);
-  i0 = i32_load(j0 + 250u);
+  i0 = i32_load(j0 + 242u);
   l28 = i0;
   j0 = l7;
   i0 = (u32)(j0);
-  i0 = i32_load8_u(j0 + 223u);
+  i0 = i32_load8_u(j0 + 215u);
   l21 = i0;
   j0 = l7;
   i0 = (u32)(j0);
-  i0 = i32_load8_u(j0 + 221u);
+  i0 = i32_load8_u(j0 + 213u);
   l29 = i0;
   j0 = l7;
   i0 = (u32)(j0);
-  i0 = i32_load16_u(j0 + 260u);
+  i0 = i32_load16_u(j0 + 252u);
   l18 = i0;
   j0 = l7;
   i0 = (u32)(j0);
-  i0 = i32_load8_u(j0 + 212u);
+  i0 = i32_load8_u(j0 + 204u);
   l22 = i0;
   j0 = l7;
   i0 = (u32)(j0);
-  i0 = i32_load16_u(j0 + 258u);
+  i0 = i32_load16_u(j0 + 250u);
   l58 = i0;
   j0 = l9;
   j1 = p1;
@@ -32927,7 +32917,7 @@ static void f30(module *self, u64 p0, u64 p1, u64 p2, u64 p3, u64 p4, u64 p5, u6
   j3 = p5;
   j4 = l7;
   i4 = (u32)(j4);
-  i4 = i32_load8_u(j4 + 200u);
+  i4 = i32_load8_u(j4 + 192u);
   f33(self, j0, j1, j2, j3, i4); m = self->memory; if (NEVER(self->is_broken)) return;
   j0 = p1;
   i1 = l58;
@@ -33057,128 +33047,141 @@ static void f30(module *self, u64 p0, u64 p1, u64 p2, u64 p3, u64 p4, u64 p5, u6
   i1 = l18;
   i32_store16(j0 + 24, i1);
   goto B6;
-  B42:;
-  i0 = l59;
-  i1 = 0u;
-  i2 = 10u;
-  i3 = 0u;
-  i4 = l18;
-  i2 = i4 ? i2 : i3;
-  i3 = l21;
-  i1 = i3 ? i1 : i2;
-  i2 = l58;
-  i0 = i2 ? i0 : i1;
-  l18 = i0;
-  i0 = 1u;
-  l58 = i0;
-  goto B1;
   B12:;
   j0 = l7;
   i0 = (u32)(j0);
   j1 = l7;
   i1 = (u32)(j1);
-  i1 = i32_load8_u(j1 + 172u);
-  i32_store8(j0 + 288, i1);
+  i1 = i32_load8_u(j1 + 164u);
+  i32_store8(j0 + 280, i1);
   j0 = l7;
   i0 = (u32)(j0);
   j1 = l7;
   i1 = (u32)(j1);
-  j1 = i64_load(j1 + 173u);
-  i64_store(j0 + 289, j1);
+  j1 = i64_load(j1 + 165u);
+  i64_store(j0 + 281, j1);
   j0 = l7;
   i0 = (u32)(j0);
   j1 = l7;
   i1 = (u32)(j1);
-  i1 = i32_load(j1 + 180u);
-  i32_store(j0 + 296, i1);
+  i1 = i32_load(j1 + 172u);
+  i32_store(j0 + 288, i1);
   j0 = 0ull;
   l8 = j0;
   j0 = l7;
   i0 = (u32)(j0);
   j1 = 0ull;
-  i64_store(j0 + 272, j1);
+  i64_store(j0 + 264, j1);
   j0 = l7;
   i0 = (u32)(j0);
   i1 = 0u;
-  i32_store(j0 + 280, i1);
-  i0 = 1u;
-  l21 = i0;
+  i32_store(j0 + 272, i1);
+  j0 = l7;
+  i0 = (u32)(j0);
+  j1 = 0ull;
+  i64_store(j0 + 176, j1);
+  j0 = l7;
+  i0 = (u32)(j0);
+  j1 = 0ull;
+  i64_store(j0 + 184, j1);
+  j0 = l7;
+  i0 = (u32)(j0);
+  j1 = 0ull;
+  i64_store(j0 + 192, j1);
+  j0 = l7;
+  i0 = (u32)(j0);
+  j1 = 0ull;
+  i64_store(j0 + 200, j1);
   j0 = p2;
   i0 = (u32)(j0);
   i0 = i32_load8_u(j0);
   l27 = i0;
-  if (i0) {goto B44;}
+  if (i0) {goto B45;}
   i0 = 2u;
   l18 = i0;
+  i0 = 1u;
+  l21 = i0;
   goto B5;
-  B44:;
+  B45:;
   j0 = l7;
-  j1 = 272ull;
+  j1 = 264ull;
   j0 += j1;
   j1 = l7;
-  j2 = 288ull;
+  j2 = 280ull;
   j1 += j2;
   j2 = p2;
   f35(self, j0, j1, j2);
   j0 = l7;
-  j1 = 160ull;
+  j1 = 176ull;
   j0 += j1;
   j1 = l7;
-  j2 = 272ull;
+  j2 = 264ull;
   j1 += j2;
   j2 = p2;
   j3 = p6;
   f36(self, j0, j1, j2, j3);
+  i0 = 1u;
+  l21 = i0;
   j0 = l7;
   i0 = (u32)(j0);
-  i0 = i32_load8_u(j0 + 160u);
-  if (i0) {goto B54;}
+  i0 = i32_load8_u(j0 + 176u);
+  i1 = 1u;
+  i0 = i0 != i1;
+  if (i0) {goto B46;}
   j0 = l7;
   i0 = (u32)(j0);
-  i0 = i32_load8_u(j0 + 283u);
+  j0 = i64_load8_u(j0 + 184u);
+  i0 = (u32)(j0);
+  i0 = i32_load8_u(j0 + 1051768u);
+  l18 = i0;
+  goto B5;
+  B46:;
+  j0 = l7;
+  i0 = (u32)(j0);
+  i0 = i32_load8_u(j0 + 275u);
   l68 = i0;
   j0 = l7;
   i0 = (u32)(j0);
-  i0 = i32_load8_u(j0 + 282u);
+  i0 = i32_load8_u(j0 + 274u);
   l19 = i0;
   j0 = l7;
   i0 = (u32)(j0);
-  i0 = i32_load8_u(j0 + 281u);
+  i0 = i32_load8_u(j0 + 273u);
   l69 = i0;
   j0 = l7;
   i0 = (u32)(j0);
-  i0 = i32_load16_u(j0 + 276u);
+  i0 = i32_load16_u(j0 + 268u);
   l58 = i0;
   j0 = l7;
   i0 = (u32)(j0);
-  i0 = i32_load16_u(j0 + 274u);
+  i0 = i32_load16_u(j0 + 266u);
   l73 = i0;
   j0 = l7;
   i0 = (u32)(j0);
-  j0 = i64_load8_u(j0 + 272u);
+  j0 = i64_load8_u(j0 + 264u);
   l9 = j0;
   j0 = l7;
   i0 = (u32)(j0);
-  i0 = i32_load8_u(j0 + 273u);
+  i0 = i32_load8_u(j0 + 265u);
   l18 = i0;
   j0 = l7;
   i0 = (u32)(j0);
-  i0 = i32_load8_u(j0 + 278u);
+  i0 = i32_load8_u(j0 + 270u);
   l24 = i0;
   j0 = l7;
   i0 = (u32)(j0);
-  i0 = i32_load16_u(j0 + 279u);
+  i0 = i32_load16_u(j0 + 271u);
   l29 = i0;
   i0 = 0u;
   l21 = i0;
   j0 = l7;
   i0 = (u32)(j0);
   i1 = 0u;
-  i32_store8(j0 + 302, i1);
+  i32_store8(j0 + 294, i1);
   j0 = l7;
   i0 = (u32)(j0);
   i1 = 0u;
-  i32_store16(j0 + 300, i1);
+  i32_store16(j0 + 292, i1);
   j0 = p4;
   j1 = 16ull;
   j0 >>= (j1 & 63);
@@ -33209,25 +33212,25 @@ static void f30(module *self, u64 p0, u64 p1, u64 p2, u64 p3, u64 p4, u64 p5, u6
   j0 = l9;
   i0 = (u32)(j0);
   switch (i0) {
-    case 0: goto B69;
-    case 1: goto B68;
-    case 2: goto B67;
-    case 3: goto B66;
-    case 4: goto B65;
-    case 5: goto B64;
-    case 6: goto B63;
-    case 7: goto B62;
-    case 8: goto B61;
-    case 9: goto B60;
-    case 10: goto B59;
-    case 11: goto B58;
-    case 12: goto B57;
-    case 13: goto B56;
-    case 14: goto B55;
-    case 15: goto B45;
-    default: goto B69;
+    case 0: goto B70;
+    case 1: goto B69;
+    case 2: goto B68;
+    case 3: goto B67;
+    case 4: goto B66;
+    case 5: goto B65;
+    case 6: goto B64;
+    case 7: goto B63;
+    case 8: goto B62;
+    case 9: goto B61;
+    case 10: goto B60;
+    case 11: goto B59;
+    case 12: goto B58;
+    case 13: goto B57;
+    case 14: goto B56;
+    case 15: goto B47;
+    default: goto B70;
   }
-  B69:;
+  B70:;
   j0 = p1;
   j1 = p2;
   j2 = 28ull;
@@ -33260,8 +33263,8 @@ static void f30(module *self, u64 p0, u64 p1, u64 p2, u64 p3, u64 p4, u64 p5, u6
   i0 = (u32)(j0);
   i1 = l73;
   i32_store16(j0, i1);
-  goto B47;
-  B68:;
+  goto B49;
+  B69:;
   j0 = p2;
   j1 = l10;
   j2 = 1ull;
@@ -33276,8 +33279,8 @@ static void f30(module *self, u64 p0, u64 p1, u64 p2, u64 p3, u64 p4, u64 p5, u6
   j1 = p2;
   i2 = l18;
   f37(self, j0, j1, i2); m = self->memory; if (NEVER(self->is_broken)) return;
-  goto B47;
-  B67:;
+  goto B49;
+  B68:;
   j0 = p2;
   j1 = 24ull;
   j0 += j1;
@@ -33294,8 +33297,8 @@ static void f30(module *self, u64 p0, u64 p1, u64 p2, u64 p3, u64 p4, u64 p5, u6
   i0 = (u32)(j0);
   i0 = i32_load16_u(j0);
   l60 = i0;
-  goto B47;
-  B66:;
+  goto B49;
+  B67:;
   j0 = p2;
   j1 = 4ull;
   j0 += j1;
@@ -33355,16 +33358,123 @@ static void f30(module *self, u64 p0, u64 p1, u64 p2, u64 p3, u64 p4, u64 p5, u6
   j1 = p2;
   i2 = l18;
   f37(self, j0, j1, i2); m = self->memory; if (NEVER(self->is_broken)) return;
-  goto B47;
+  goto B49;
+  B66:;
+  j0 = l7;
+  i0 = (u32)(j0);
+  i1 = 0u;
+  i32_store(j0 + 304, i1);
+  j0 = l7;
+  i0 = (u32)(j0);
+  j1 = 0ull;
+  i64_store(j0 + 296, j1);
+  j0 = p2;
+  j1 = 30ull;
+  j0 += j1;
+  i0 = (u32)(j0);
+  i0 = i32_load8_u(j0);
+  l27 = i0;
+  i1 = l58;
+  i2 = 8u;
+  i1 >>= (i2 & 31);
+  l59 = i1;
+  i2 = l27;
+  i3 = l59;
+  i2 = i2 < i3;
+  i0 = i2 ? i0 : i1;
+  l59 = i0;
+  i1 = l73;
+  i2 = 8u;
+  i1 >>= (i2 & 31);
+  l27 = i1;
+  i0 = i0 < i1;
+  if (i0) {goto B49;}
+  j0 = p2;
+  j1 = 2ull;
+  j0 += j1;
+  i0 = (u32)(j0);
+  i0 = i32_load16_u(j0);
+  l28 = i0;
+  i1 = l24;
+  i2 = 1u;
+  i1 += i2;
+  l24 = i1;
+  i2 = l28;
+  i3 = l24;
+  i2 = i2 < i3;
+  i0 = i2 ? i0 : i1;
+  l24 = i0;
+  i1 = l58;
+  i2 = 255u;
+  i1 &= i2;
+  l58 = i1;
+  i0 = i0 <= i1;
+  if (i0) {goto B49;}
+  j0 = l7;
+  i0 = (u32)(j0);
+  i1 = l73;
+  i32_store8(j0 + 304, i1);
+  j0 = l7;
+  i0 = (u32)(j0);
+  i1 = l58;
+  i32_store(j0 + 320, i1);
+  j0 = l7;
+  i0 = (u32)(j0);
+  i1 = l24;
+  i2 = l58;
+  i1 -= i2;
+  i32_store(j0 + 324, i1);
+  j0 = l7;
+  i0 = (u32)(j0);
+  i1 = l27;
+  i32_store(j0 + 312, i1);
+  j0 = l7;
+  i0 = (u32)(j0);
+  i1 = l59;
+  i2 = l27;
+  i1 -= i2;
+  i2 = 255u;
+  i1 &= i2;
+  i2 = 1u;
+  i1 += i2;
+  l58 = i1;
+  i32_store(j0 + 316, i1);
+  j0 = l7;
+  i0 = (u32)(j0);
+  i1 = l58;
+  i2 = l18;
+  i3 = l58;
+  i4 = l18;
+  i3 = i3 < i4;
+  i1 = i3 ? i1 : i2;
+  i2 = l58;
+  i3 = l18;
+  i1 = i3 ? i1 : i2;
+  i32_store(j0 + 300, i1);
+  j0 = l7;
+  j1 = 312ull;
+  j0 += j1;
+  j1 = p1;
+  j2 = p2;
+  j3 = p2;
+  j4 = 26ull;
+  j3 += j4;
+  i3 = (u32)(j3);
+  i3 = i32_load8_u(j3);
+  j4 = l7;
+  j5 = 296ull;
+  j4 += j5;
+  f38(self, j0, j1, j2, i3, j4); m = self->memory; if (NEVER(self->is_broken)) return;
+  goto B49;
   B65:;
   j0 = l7;
   i0 = (u32)(j0);
   i1 = 0u;
-  i32_store(j0 + 312, i1);
+  i32_store(j0 + 304, i1);
   j0 = l7;
   i0 = (u32)(j0);
   j1 = 0ull;
-  i64_store(j0 + 304, j1);
+  i64_store(j0 + 296, j1);
   j0 = p2;
   j1 = 30ull;
   j0 += j1;
@@ -33385,7 +33495,7 @@ static void f30(module *self, u64 p0, u64 p1, u64 p2, u64 p3, u64 p4, u64 p5, u6
   i1 >>= (i2 & 31);
   l27 = i1;
   i0 = i0 < i1;
-  if (i0) {goto B47;}
+  if (i0) {goto B49;}
   j0 = p2;
   j1 = 2ull;
   j0 += j1;
@@ -33406,138 +33516,31 @@ static void f30(module *self, u64 p0, u64 p1, u64 p2, u64 p3, u64 p4, u64 p5, u6
   i1 &= i2;
   l58 = i1;
   i0 = i0 <= i1;
-  if (i0) {goto B47;}
+  if (i0) {goto B49;}
   j0 = l7;
   i0 = (u32)(j0);
   i1 = l73;
-  i32_store8(j0 + 312, i1);
-  j0 = l7;
-  i0 = (u32)(j0);
-  i1 = l58;
-  i32_store(j0 + 192, i1);
-  j0 = l7;
-  i0 = (u32)(j0);
-  i1 = l24;
-  i2 = l58;
-  i1 -= i2;
-  i32_store(j0 + 196, i1);
-  j0 = l7;
-  i0 = (u32)(j0);
-  i1 = l27;
-  i32_store(j0 + 184, i1);
-  j0 = l7;
-  i0 = (u32)(j0);
-  i1 = l59;
-  i2 = l27;
-  i1 -= i2;
-  i2 = 255u;
-  i1 &= i2;
-  i2 = 1u;
-  i1 += i2;
-  l58 = i1;
-  i32_store(j0 + 188, i1);
-  j0 = l7;
-  i0 = (u32)(j0);
-  i1 = l58;
-  i2 = l18;
-  i3 = l58;
-  i4 = l18;
-  i3 = i3 < i4;
-  i1 = i3 ? i1 : i2;
-  i2 = l58;
-  i3 = l18;
-  i1 = i3 ? i1 : i2;
-  i32_store(j0 + 308, i1);
-  j0 = l7;
-  j1 = 184ull;
-  j0 += j1;
-  j1 = p1;
-  j2 = p2;
-  j3 = p2;
-  j4 = 26ull;
-  j3 += j4;
-  i3 = (u32)(j3);
-  i3 = i32_load8_u(j3);
-  j4 = l7;
-  j5 = 304ull;
-  j4 += j5;
-  f38(self, j0, j1, j2, i3, j4); m = self->memory; if (NEVER(self->is_broken)) return;
-  goto B47;
-  B64:;
-  j0 = l7;
-  i0 = (u32)(j0);
-  i1 = 0u;
-  i32_store(j0 + 312, i1);
-  j0 = l7;
-  i0 = (u32)(j0);
-  j1 = 0ull;
-  i64_store(j0 + 304, j1);
-  j0 = p2;
-  j1 = 30ull;
-  j0 += j1;
-  i0 = (u32)(j0);
-  i0 = i32_load8_u(j0);
-  l27 = i0;
-  i1 = l58;
-  i2 = 8u;
-  i1 >>= (i2 & 31);
-  l59 = i1;
-  i2 = l27;
-  i3 = l59;
-  i2 = i2 < i3;
-  i0 = i2 ? i0 : i1;
-  l59 = i0;
-  i1 = l73;
-  i2 = 8u;
-  i1 >>= (i2 & 31);
-  l27 = i1;
-  i0 = i0 < i1;
-  if (i0) {goto B47;}
-  j0 = p2;
-  j1 = 2ull;
-  j0 += j1;
-  i0 = (u32)(j0);
-  i0 = i32_load16_u(j0);
-  l28 = i0;
-  i1 = l24;
-  i2 = 1u;
-  i1 += i2;
-  l24 = i1;
-  i2 = l28;
-  i3 = l24;
-  i2 = i2 < i3;
-  i0 = i2 ? i0 : i1;
-  l24 = i0;
-  i1 = l58;
-  i2 = 255u;
-  i1 &= i2;
-  l58 = i1;
-  i0 = i0 <= i1;
-  if (i0) {goto B47;}
-  j0 = l7;
-  i0 = (u32)(j0);
-  i1 = l73;
-  i32_store8(j0 + 312, i1);
-  j0 = l7;
-  i0 = (u32)(j0);
-  i1 = l58;
-  i32_store(j0 + 192, i1);
-  j0 = l7;
-  i0 = (u32)(j0);
-  i1 = l24;
-  i2 = l58;
-  i1 -= i2;
-  i32_store(j0 + 196, i1);
-  j0 = l7;
-  i0 = (u32)(j0);
-  i1 = l27;
-  i32_store(j0 + 184, i1);
-  j0 = l7;
-  i0 = (u32)(j0);
-  i1 = 1u;
   i32_store8(j0 + 304, i1);
   j0 = l7;
   i0 = (u32)(j0);
+  i1 = l58;
+  i32_store(j0 + 320, i1);
+  j0 = l7;
+  i0 = (u32)(j0);
+  i1 = l24;
+  i2 = l58;
+  i1 -= i2;
+  i32_store(j0 + 324, i1);
+  j0 = l7;
+  i0 = (u32)(j0);
+  i1 = l27;
+  i32_store(j0 + 312, i1);
+  j0 = l7;
+  i0 = (u32)(j0);
+  i1 = 1u;
+  i32_store8(j0 + 296, i1);
+  j0 = l7;
+  i0 = (u32)(j0);
   i1 = l59;
   i2 = l27;
   i1 -= i2;
@@ -33546,7 +33549,7 @@ static void f30(module *self, u64 p0, u64 p1, u64 p2, u64 p3, u64 p4, u64 p5, u6
   i2 = 1u;
   i1 += i2;
   l58 = i1;
-  i32_store(j0 + 188, i1);
+  i32_store(j0 + 316, i1);
   j0 = l7;
   i0 = (u32)(j0);
   i1 = l58;
@@ -33558,9 +33561,9 @@ static void f30(module *self, u64 p0, u64 p1, u64 p2, u64 p3, u64 p4, u64 p5, u6
   i2 = l58;
   i3 = l18;
   i1 = i3 ? i1 : i2;
-  i32_store(j0 + 308, i1);
+  i32_store(j0 + 300, i1);
   j0 = l7;
-  j1 = 184ull;
+  j1 = 312ull;
   j0 += j1;
   j1 = p1;
   j2 = p2;
@@ -33570,11 +33573,11 @@ static void f30(module *self, u64 p0, u64 p1, u64 p2, u64 p3, u64 p4, u64 p5, u6
   i3 = (u32)(j3);
   i3 = i32_load8_u(j3);
   j4 = l7;
-  j5 = 304ull;
+  j5 = 296ull;
   j4 += j5;
   f38(self, j0, j1, j2, i3, j4); m = self->memory; if (NEVER(self->is_broken)) return;
-  goto B47;
-  B63:;
+  goto B49;
+  B64:;
   j0 = p2;
   j1 = l10;
   j2 = 1ull;
@@ -33604,7 +33607,7 @@ static void f30(module *self, u64 p0, u64 p1, u64 p2, u64 p3, u64 p4, u64 p5, u6
   i0 += i1;
   i1 = 251u;
   i0 &= i1;
-  if (i0) {goto B70;}
+  if (i0) {goto B71;}
   i0 = l59;
   i1 = 1u;
   i0 <<= (i1 & 31);
@@ -33635,63 +33638,63 @@ static void f30(module *self, u64 p0, u64 p1, u64 p2, u64 p3, u64 p4, u64 p5, u6
   l8 = j0;
   i0 = (u32)(j0);
   j0 = i64_load(j0);
-  p6 = j0;
+  p5 = j0;
   j1 = 16777216ull;
   i0 = j0 > j1;
-  if (i0) {goto B71;}
+  if (i0) {goto B72;}
   j0 = l8;
   i0 = (u32)(j0);
-  j1 = p6;
+  j1 = p5;
   j2 = 5ull;
   j1 += j2;
-  p6 = j1;
+  p5 = j1;
   i64_store(j0, j1);
-  j0 = p6;
+  j0 = p5;
   j1 = p1;
   j2 = 2104ull;
   j1 += j2;
   i1 = (u32)(j1);
   j1 = i64_load(j1);
   i0 = j0 > j1;
-  if (i0) {goto B71;}
+  if (i0) {goto B72;}
   j0 = p1;
   j1 = 2088ull;
   j0 += j1;
   l9 = j0;
   i0 = (u32)(j0);
   j0 = i64_load(j0);
-  p5 = j0;
+  p6 = j0;
   j1 = p1;
   j2 = 2080ull;
   j1 += j2;
   l10 = j1;
   i1 = (u32)(j1);
   j1 = i64_load(j1);
-  p6 = j1;
+  p5 = j1;
   j0 -= j1;
   j1 = 4ull;
   i0 = j0 > j1;
-  if (i0) {goto B72;}
+  if (i0) {goto B73;}
   j0 = p1;
   j1 = 2072ull;
   j0 += j1;
   j1 = 5ull;
   i0 = f15(self, j0, j1); m = self->memory; if (NEVER(self->is_broken)) return;
   i0 = !(i0);
-  if (i0) {goto B71;}
+  if (i0) {goto B72;}
   j0 = p1;
   j1 = 2088ull;
   j0 += j1;
   i0 = (u32)(j0);
   j0 = i64_load(j0);
-  p5 = j0;
+  p6 = j0;
   j0 = p1;
   j1 = 2080ull;
   j0 += j1;
   i0 = (u32)(j0);
   j0 = i64_load(j0);
-  p6 = j0;
-  B72:;
+  p5 = j0;
+  B73:;
   j0 = p1;
   j1 = 2072ull;
   j0 += j1;
@@ -33699,7 +33702,7 @@ static void f30(module *self, u64 p0, u64 p1, u64 p2, u64 p3, u64 p4, u64 p5, u6
   i0 = (u32)(j0);
   j0 = i64_load(j0);
   p2 = j0;
-  j1 = p6;
+  j1 = p5;
   j0 += j1;
   l15 = j0;
   i0 = (u32)(j0);
@@ -33711,11 +33714,11 @@ static void f30(module *self, u64 p0, u64 p1, u64 p2, u64 p3, u64 p4, u64 p5, u6
   i32_store8(j0, i1);
   j0 = l9;
   i0 = (u32)(j0);
-  j1 = p5;
+  j1 = p6;
   i64_store(j0, j1);
   j0 = l10;
   i0 = (u32)(j0);
-  j1 = p6;
+  j1 = p5;
   j2 = 5ull;
   j1 += j2;
   i64_store(j0, j1);
@@ -33723,7 +33726,7 @@ static void f30(module *self, u64 p0, u64 p1, u64 p2, u64 p3, u64 p4, u64 p5, u6
   i0 = (u32)(j0);
   j1 = p2;
   i64_store(j0, j1);
-  B71:;
+  B72:;
   j0 = l7;
   j1 = 64ull;
   j0 += j1;
@@ -33748,7 +33751,7 @@ static void f30(module *self, u64 p0, u64 p1, u64 p2, u64 p3, u64 p4, u64 p5, u6
   l8 = j0;
   j1 = 16777216ull;
   i0 = j0 > j1;
-  if (i0) {goto B73;}
+  if (i0) {goto B74;}
   j0 = p1;
   j1 = 2096ull;
   j0 += j1;
@@ -33765,14 +33768,14 @@ static void f30(module *self, u64 p0, u64 p1, u64 p2, u64 p3, u64 p4, u64 p5, u6
   i1 = (u32)(j1);
   j1 = i64_load(j1);
   i0 = j0 > j1;
-  if (i0) {goto B73;}
+  if (i0) {goto B74;}
   j0 = p1;
   j1 = 2088ull;
   j0 += j1;
-  p5 = j0;
+  p6 = j0;
   i0 = (u32)(j0);
   j0 = i64_load(j0);
-  p6 = j0;
+  p5 = j0;
   j1 = p1;
   j2 = 2080ull;
   j1 += j2;
@@ -33783,27 +33786,27 @@ static void f30(module *self, u64 p0, u64 p1, u64 p2, u64 p3, u64 p4, u64 p5, u6
   j0 -= j1;
   j1 = 4ull;
   i0 = j0 > j1;
-  if (i0) {goto B74;}
+  if (i0) {goto B75;}
   j0 = p1;
   j1 = 2072ull;
   j0 += j1;
   j1 = 5ull;
   i0 = f15(self, j0, j1); m = self->memory; if (NEVER(self->is_broken)) return;
   i0 = !(i0);
-  if (i0) {goto B73;}
+  if (i0) {goto B74;}
   j0 = p1;
   j1 = 2088ull;
   j0 += j1;
   i0 = (u32)(j0);
   j0 = i64_load(j0);
-  p6 = j0;
+  p5 = j0;
   j0 = p1;
   j1 = 2080ull;
   j0 += j1;
   i0 = (u32)(j0);
   j0 = i64_load(j0);
   l8 = j0;
-  B74:;
+  B75:;
   j0 = p1;
   j1 = 2072ull;
   j0 += j1;
@@ -33821,9 +33824,9 @@ static void f30(module *self, u64 p0, u64 p1, u64 p2, u64 p3, u64 p4, u64 p5, u6
   i0 = (u32)(j0);
   i1 = 7u;
   i32_store8(j0, i1);
-  j0 = p5;
+  j0 = p6;
   i0 = (u32)(j0);
-  j1 = p6;
+  j1 = p5;
   i64_store(j0, j1);
   j0 = l9;
   i0 = (u32)(j0);
@@ -33835,7 +33838,7 @@ static void f30(module *self, u64 p0, u64 p1, u64 p2, u64 p3, u64 p4, u64 p5, u6
   i0 = (u32)(j0);
   j1 = l11;
   i64_store(j0, j1);
-  B73:;
+  B74:;
   j0 = l7;
   j1 = 56ull;
   j0 += j1;
@@ -33864,11 +33867,11 @@ static void f30(module *self, u64 p0, u64 p1, u64 p2, u64 p3, u64 p4, u64 p5, u6
   l59 = i0;
   j0 = l12;
   l8 = j0;
-  goto B45;
-  B70:;
+  goto B47;
+  B71:;
   i0 = l58;
   i0 = !(i0);
-  if (i0) {goto B77;}
+  if (i0) {goto B78;}
   i0 = 0u;
   l73 = i0;
   i0 = 1u;
@@ -33881,26 +33884,26 @@ static void f30(module *self, u64 p0, u64 p1, u64 p2, u64 p3, u64 p4, u64 p5, u6
   i1 = 4294967293u;
   i0 += i1;
   switch (i0) {
-    case 0: goto B76;
-    case 1: goto B75;
-    case 2: goto B75;
-    case 3: goto B75;
-    case 4: goto B76;
-    case 5: goto B75;
-    case 6: goto B75;
-    case 7: goto B75;
-    case 8: goto B75;
-    case 9: goto B75;
-    case 10: goto B75;
-    case 11: goto B75;
-    case 12: goto B75;
-    case 13: goto B75;
-    case 14: goto B75;
-    case 15: goto B75;
-    case 16: goto B78;
-    default: goto B75;
+    case 0: goto B77;
+    case 1: goto B76;
+    case 2: goto B76;
+    case 3: goto B76;
+    case 4: goto B77;
+    case 5: goto B76;
+    case 6: goto B76;
+    case 7: goto B76;
+    case 8: goto B76;
+    case 9: goto B76;
+    case 10: goto B76;
+    case 11: goto B76;
+    case 12: goto B76;
+    case 13: goto B76;
+    case 14: goto B76;
+    case 15: goto B76;
+    case 16: goto B79;
+    default: goto B76;
   }
-  B78:;
+  B79:;
   i0 = 8u;
   l24 = i0;
   i0 = 2u;
@@ -33909,10 +33912,10 @@ static void f30(module *self, u64 p0, u64 p1, u64 p2, u64 p3, u64 p4, u64 p5, u6
   l73 = i0;
   i0 = 0u;
   l26 = i0;
-  goto B75;
-  B77:;
+  goto B76;
+  B78:;
   { self->is_broken = true; return; }
-  B76:;
+  B77:;
   i0 = 2u;
   l24 = i0;
   i0 = 0u;
@@ -33921,7 +33924,7 @@ static void f30(module *self, u64 p0, u64 p1, u64 p2, u64 p3, u64 p4, u64 p5, u6
   l73 = i0;
   i0 = 0u;
   l28 = i0;
-  B75:;
+  B76:;
   j0 = p2;
   j1 = 32ull;
   j0 += j1;
@@ -33937,11 +33940,11 @@ static void f30(module *self, u64 p0, u64 p1, u64 p2, u64 p3, u64 p4, u64 p5, u6
   j0 = l7;
   i0 = (u32)(j0);
   j1 = 0ull;
-  i64_store(j0 + 192, j1);
+  i64_store(j0 + 320, j1);
   j0 = l7;
   i0 = (u32)(j0);
   j1 = 0ull;
-  i64_store(j0 + 184, j1);
+  i64_store(j0 + 312, j1);
   i0 = l59;
   i1 = l58;
   if (i1 == 0) { self->is_broken = true; return; } i0 = i0 / i1;
@@ -33953,15 +33956,15 @@ static void f30(module *self, u64 p0, u64 p1, u64 p2, u64 p3, u64 p4, u64 p5, u6
   l23 = i0;
   i0 = l26;
   i0 = !(i0);
-  if (i0) {goto B79;}
+  if (i0) {goto B80;}
   j0 = p1;
   i1 = 5u;
   i2 = 8u;
   f40(self, j0, i1, i2); m = self->memory; if (NEVER(self->is_broken)) return;
-  B79:;
+  B80:;
   i0 = l23;
   i0 = !(i0);
-  if (i0) {goto B81;}
+  if (i0) {goto B82;}
   i0 = l24;
   i1 = l58;
   i0 *= i1;
@@ -33999,32 +34002,32 @@ static void f30(module *self, u64 p0, u64 p1, u64 p2, u64 p3, u64 p4, u64 p5, u6
   l19 = i0;
   i0 = l28;
   switch (i0) {
-    case 0: goto B84;
-    case 1: goto B83;
-    case 2: goto B82;
-    default: goto B84;
+    case 0: goto B85;
+    case 1: goto B84;
+    case 2: goto B83;
+    default: goto B85;
   }
-  B84:;
+  B85:;
   j0 = p4;
   i0 = !(j0);
-  if (i0) {goto B80;}
+  if (i0) {goto B81;}
   j0 = l7;
-  j1 = 184ull;
+  j1 = 312ull;
   j0 += j1;
   i0 = (u32)(j0);
   i1 = 0u;
   j2 = p4;
   i2 = (u32)(j2);
   memory_fill(j0, i1, j2);
-  goto B80;
-  B83:;
+  goto B81;
+  B84:;
   j0 = 0ull;
   l8 = j0;
   j0 = l7;
-  j1 = 184ull;
+  j1 = 312ull;
   j0 += j1;
-  p6 = j0;
-  L85: 
+  p5 = j0;
+  L86: 
     i0 = l69;
     j1 = l8;
     i1 = (u32)(j1);
@@ -34037,14 +34040,14 @@ static void f30(module *self, u64 p0, u64 p1, u64 p2, u64 p3, u64 p4, u64 p5, u6
     j0 = p1;
     j1 = 2096ull;
     j0 += j1;
-    p5 = j0;
+    p6 = j0;
     i0 = (u32)(j0);
     j0 = i64_load(j0);
     l9 = j0;
     j1 = 16777216ull;
     i0 = j0 > j1;
-    if (i0) {goto B86;}
-    j0 = p5;
+    if (i0) {goto B87;}
+    j0 = p6;
     i0 = (u32)(j0);
     j1 = l9;
     j2 = 5ull;
@@ -34058,7 +34061,7 @@ static void f30(module *self, u64 p0, u64 p1, u64 p2, u64 p3, u64 p4, u64 p5, u6
     i1 = (u32)(j1);
     j1 = i64_load(j1);
     i0 = j0 > j1;
-    if (i0) {goto B86;}
+    if (i0) {goto B87;}
     j0 = p1;
     j1 = 2088ull;
     j0 += j1;
@@ -34072,18 +34075,18 @@ static void f30(module *self, u64 p0, u64 p1, u64 p2, u64 p3, u64 p4, u64 p5, u6
     l11 = j1;
     i1 = (u32)(j1);
     j1 = i64_load(j1);
-    p5 = j1;
+    p6 = j1;
     j0 -= j1;
     j1 = 4ull;
     i0 = j0 > j1;
-    if (i0) {goto B87;}
+    if (i0) {goto B88;}
     j0 = p1;
     j1 = 2072ull;
     j0 += j1;
     j1 = 5ull;
     i0 = f15(self, j0, j1); m = self->memory; if (NEVER(self->is_broken)) return;
     i0 = !(i0);
-    if (i0) {goto B86;}
+    if (i0) {goto B87;}
     j0 = p1;
     j1 = 2088ull;
     j0 += j1;
@@ -34095,8 +34098,8 @@ static void f30(module *self, u64 p0, u64 p1, u64 p2, u64 p3, u64 p4, u64 p5, u6
     j0 += j1;
     i0 = (u32)(j0);
     j0 = i64_load(j0);
-    p5 = j0;
-    B87:;
+    p6 = j0;
+    B88:;
     j0 = p1;
     j1 = 2072ull;
     j0 += j1;
@@ -34104,7 +34107,7 @@ static void f30(module *self, u64 p0, u64 p1, u64 p2, u64 p3, u64 p4, u64 p5, u6
     i0 = (u32)(j0);
     j0 = i64_load(j0);
     l15 = j0;
-    j1 = p5;
+    j1 = p6;
     j0 += j1;
     l16 = j0;
     i0 = (u32)(j0);
@@ -34120,7 +34123,7 @@ static void f30(module *self, u64 p0, u64 p1, u64 p2, u64 p3, u64 p4, u64 p5, u6
     i64_store(j0, j1);
     j0 = l11;
     i0 = (u32)(j0);
-    j1 = p5;
+    j1 = p6;
     j2 = 5ull;
     j1 += j2;
     i64_store(j0, j1);
@@ -34128,14 +34131,14 @@ static void f30(module *self, u64 p0, u64 p1, u64 p2, u64 p3, u64 p4, u64 p5, u6
     i0 = (u32)(j0);
     j1 = l15;
     i64_store(j0, j1);
-    B86:;
+    B87:;
     j0 = l7;
     j1 = 72ull;
     j0 += j1;
     j1 = p1;
     i2 = l58;
     f39(self, j0, j1, i2);
-    j0 = p6;
+    j0 = p5;
     i0 = (u32)(j0);
     i1 = 0u;
     j2 = l7;
@@ -34148,10 +34151,10 @@ static void f30(module *self, u64 p0, u64 p1, u64 p2, u64 p3, u64 p4, u64 p5, u6
     i3 = i32_load8_u(j3 + 72u);
     i1 = i3 ? i1 : i2;
     i32_store8(j0, i1);
-    j0 = p6;
+    j0 = p5;
     j1 = 1ull;
     j0 += j1;
-    p6 = j0;
+    p5 = j0;
     j0 = l8;
     j1 = 1ull;
     j0 += j1;
@@ -34162,13 +34165,13 @@ static void f30(module *self, u64 p0, u64 p1, u64 p2, u64 p3, u64 p4, u64 p5, u6
     p4 = j0;
     i0 = !(j0);
     i0 = !(i0);
-    if (i0) {goto L85;}
-    goto B81;
+    if (i0) {goto L86;}
+    goto B82;
   { self->is_broken = true; return; }
-  B82:;
+  B83:;
   j0 = 0ull;
   l15 = j0;
-  L88: 
+  L89: 
     i0 = l69;
     j1 = l15;
     i1 = (u32)(j1);
@@ -34184,7 +34187,7 @@ static void f30(module *self, u64 p0, u64 p1, u64 p2, u64 p3, u64 p4, u64 p5, u6
     l24 = i0;
     i0 = 0u;
     l18 = i0;
-    L89: 
+    L90: 
       i0 = l73;
       i1 = l27;
       i0 += i1;
@@ -34195,32 +34198,32 @@ static void f30(module *self, u64 p0, u64 p1, u64 p2, u64 p3, u64 p4, u64 p5, u6
       l8 = j0;
       i0 = (u32)(j0);
       j0 = i64_load(j0);
-      p6 = j0;
+      p5 = j0;
       j1 = 16777216ull;
       i0 = j0 > j1;
-      if (i0) {goto B90;}
+      if (i0) {goto B91;}
       j0 = l8;
       i0 = (u32)(j0);
-      j1 = p6;
+      j1 = p5;
       j2 = 5ull;
       j1 += j2;
-      p6 = j1;
+      p5 = j1;
       i64_store(j0, j1);
-      j0 = p6;
+      j0 = p5;
       j1 = p1;
       j2 = 2104ull;
       j1 += j2;
       i1 = (u32)(j1);
       j1 = i64_load(j1);
       i0 = j0 > j1;
-      if (i0) {goto B90;}
+      if (i0) {goto B91;}
       j0 = p1;
       j1 = 2088ull;
       j0 += j1;
-      p5 = j0;
+      p6 = j0;
       i0 = (u32)(j0);
       j0 = i64_load(j0);
-      p6 = j0;
+      p5 = j0;
       j1 = p1;
       j2 = 2080ull;
       j1 += j2;
@@ -34231,27 +34234,27 @@ static void f30(module *self, u64 p0, u64 p1, u64 p2, u64 p3, u64 p4, u64 p5, u6
       j0 -= j1;
       j1 = 4ull;
       i0 = j0 > j1;
-      if (i0) {goto B91;}
+      if (i0) {goto B92;}
       j0 = p1;
       j1 = 2072ull;
       j0 += j1;
       j1 = 5ull;
       i0 = f15(self, j0, j1); m = self->memory; if (NEVER(self->is_broken)) return;
       i0 = !(i0);
-      if (i0) {goto B90;}
+      if (i0) {goto B91;}
       j0 = p1;
       j1 = 2088ull;
       j0 += j1;
       i0 = (u32)(j0);
       j0 = i64_load(j0);
-      p6 = j0;
+      p5 = j0;
       j0 = p1;
       j1 = 2080ull;
       j0 += j1;
       i0 = (u32)(j0);
       j0 = i64_load(j0);
       l8 = j0;
-      B91:;
+      B92:;
       j0 = p1;
       j1 = 2072ull;
       j0 += j1;
@@ -34269,9 +34272,9 @@ static void f30(module *self, u64 p0, u64 p1, u64 p2, u64 p3, u64 p4, u64 p5, u6
       i0 = (u32)(j0);
       i1 = 7u;
       i32_store8(j0, i1);
-      j0 = p5;
+      j0 = p6;
       i0 = (u32)(j0);
-      j1 = p6;
+      j1 = p5;
       i64_store(j0, j1);
       j0 = l9;
       i0 = (u32)(j0);
@@ -34283,7 +34286,7 @@ static void f30(module *self, u64 p0, u64 p1, u64 p2, u64 p3, u64 p4, u64 p5, u6
       i0 = (u32)(j0);
       j1 = l11;
       i64_store(j0, j1);
-      B90:;
+      B91:;
       i0 = 1u;
       l58 = i0;
       j0 = p1;
@@ -34294,7 +34297,7 @@ static void f30(module *self, u64 p0, u64 p1, u64 p2, u64 p3, u64 p4, u64 p5, u6
       i1 = 2u;
       i0 &= i1;
       i0 = !(i0);
-      if (i0) {goto B92;}
+      if (i0) {goto B93;}
       i0 = 1u;
       l58 = i0;
       i0 = l59;
@@ -34311,7 +34314,7 @@ static void f30(module *self, u64 p0, u64 p1, u64 p2, u64 p3, u64 p4, u64 p5, u6
       i1 = (u32)(j1);
       i1 = i32_load(j1);
       i0 = i0 >= i1;
-      if (i0) {goto B92;}
+      if (i0) {goto B93;}
       j0 = p1;
       i0 = (u32)(j0);
       j0 = i64_load(j0);
@@ -34357,7 +34360,7 @@ static void f30(module *self, u64 p0, u64 p1, u64 p2, u64 p3, u64 p4, u64 p5, u6
       i1 = 8u;
       i0 &= i1;
       i0 = !(i0);
-      if (i0) {goto B94;}
+      if (i0) {goto B95;}
       j0 = p1;
       j1 = 49ull;
       j0 += j1;
@@ -34402,10 +34405,10 @@ static void f30(module *self, u64 p0, u64 p1, u64 p2, u64 p3, u64 p4, u64 p5, u6
       i1 = 4294967295u;
       i0 ^= i1;
       l59 = i0;
-      goto B93;
-      B94:;
+      goto B94;
+      B95:;
       i0 = l28;
-      if (i0) {goto B96;}
+      if (i0) {goto B97;}
       j0 = p1;
       j1 = 51ull;
       j0 += j1;
@@ -34416,7 +34419,7 @@ static void f30(module *self, u64 p0, u64 p1, u64 p2, u64 p3, u64 p4, u64 p5, u6
       i1 = 16u;
       i0 &= i1;
       i0 = !(i0);
-      if (i0) {goto B97;}
+      if (i0) {goto B98;}
       i0 = l59;
       i1 = 1u;
       i0 &= i1;
@@ -34425,26 +34428,26 @@ static void f30(module *self, u64 p0, u64 p1, u64 p2, u64 p3, u64 p4, u64 p5, u6
       i1 &= i2;
       i0 |= i1;
       l59 = i0;
-      goto B95;
-      B97:;
+      goto B96;
+      B98:;
       i0 = l28;
       i1 = 3u;
       i0 &= i1;
       l59 = i0;
-      goto B95;
-      B96:;
+      goto B96;
+      B97:;
       i0 = l59;
       i1 = 3u;
       i0 &= i1;
       l59 = i0;
-      B95:;
+      B96:;
       i0 = l58;
       i1 = l59;
       i2 = 3u;
       i1 <<= (i2 & 31);
       i0 >>= (i1 & 31);
       l59 = i0;
-      B93:;
+      B94:;
       j0 = p1;
       j1 = 24ull;
       j0 += j1;
@@ -34457,7 +34460,7 @@ static void f30(module *self, u64 p0, u64 p1, u64 p2, u64 p3, u64 p4, u64 p5, u6
       i1 = 0u;
       i0 = i0 != i1;
       l58 = i0;
-      B92:;
+      B93:;
       i0 = l27;
       i1 = 1u;
       i0 += i1;
@@ -34472,9 +34475,9 @@ static void f30(module *self, u64 p0, u64 p1, u64 p2, u64 p3, u64 p4, u64 p5, u6
       i1 = 4294967295u;
       i0 += i1;
       l24 = i0;
-      if (i0) {goto L89;}
+      if (i0) {goto L90;}
     j0 = l7;
-    j1 = 184ull;
+    j1 = 312ull;
     j0 += j1;
     j1 = l15;
     j0 += j1;
@@ -34487,23 +34490,23 @@ static void f30(module *self, u64 p0, u64 p1, u64 p2, u64 p3, u64 p4, u64 p5, u6
     l15 = j0;
     j1 = p4;
     i0 = j0 != j1;
-    if (i0) {goto L88;}
-  B81:;
+    if (i0) {goto L89;}
+  B82:;
   i0 = l26;
   i0 = !(i0);
-  if (i0) {goto B80;}
+  if (i0) {goto B81;}
   j0 = p1;
   i1 = 5u;
   i2 = 0u;
   f40(self, j0, i1, i2); m = self->memory; if (NEVER(self->is_broken)) return;
-  B80:;
+  B81:;
   i0 = l40;
   i1 = 4294967040u;
   i0 &= i1;
   j1 = p3;
   i2 = l23;
   j3 = l7;
-  j4 = 184ull;
+  j4 = 312ull;
   j3 += j4;
   i1 = f41(self, j1, i2, j3); if (NEVER(self->is_broken)) return;
   i2 = 255u;
@@ -34512,24 +34515,24 @@ static void f30(module *self, u64 p0, u64 p1, u64 p2, u64 p3, u64 p4, u64 p5, u6
   l59 = i0;
   j0 = l12;
   l8 = j0;
-  goto B45;
-  B62:;
+  goto B47;
+  B63:;
   j0 = l7;
   i0 = (u32)(j0);
   j1 = 0ull;
-  i64_store(j0 + 200, j1);
+  i64_store(j0 + 328, j1);
   j0 = l7;
   i0 = (u32)(j0);
   j1 = p3;
-  i64_store(j0 + 184, j1);
+  i64_store(j0 + 312, j1);
   j0 = l7;
   i0 = (u32)(j0);
   i1 = l73;
-  i32_store8(j0 + 200, i1);
+  i32_store8(j0 + 328, i1);
   j0 = l7;
   i0 = (u32)(j0);
   j1 = p2;
-  i64_store(j0 + 192, j1);
+  i64_store(j0 + 320, j1);
   i0 = l29;
   i1 = 8u;
   i0 <<= (i1 & 31);
@@ -34541,7 +34544,7 @@ static void f30(module *self, u64 p0, u64 p1, u64 p2, u64 p3, u64 p4, u64 p5, u6
   i0 &= i1;
   l59 = i0;
   i0 = !(i0);
-  if (i0) {goto B47;}
+  if (i0) {goto B49;}
   j0 = p2;
   i1 = l73;
   i2 = 1u;
@@ -34576,10 +34579,10 @@ static void f30(module *self, u64 p0, u64 p1, u64 p2, u64 p3, u64 p4, u64 p5, u6
   i1 = 8u;
   i0 >>= (i1 & 31);
   l24 = i0;
-  L98: 
+  L99: 
     j0 = p1;
     j1 = l7;
-    j2 = 184ull;
+    j2 = 312ull;
     j1 += j2;
     i2 = l27;
     i3 = l24;
@@ -34594,10 +34597,10 @@ static void f30(module *self, u64 p0, u64 p1, u64 p2, u64 p3, u64 p4, u64 p5, u6
     i1 = 4294967295u;
     i0 += i1;
     l59 = i0;
-    if (i0) {goto L98;}
-    goto B47;
+    if (i0) {goto L99;}
+    goto B49;
   { self->is_broken = true; return; }
-  B61:;
+  B62:;
   j0 = p2;
   j1 = 2ull;
   j0 += j1;
@@ -34613,7 +34616,7 @@ static void f30(module *self, u64 p0, u64 p1, u64 p2, u64 p3, u64 p4, u64 p5, u6
   i0 = l27;
   i1 = 19u;
   i0 = i0 != i1;
-  if (i0) {goto B100;}
+  if (i0) {goto B101;}
   i0 = l58;
   i1 = l59;
   i0 *= i1;
@@ -34622,8 +34625,8 @@ static void f30(module *self, u64 p0, u64 p1, u64 p2, u64 p3, u64 p4, u64 p5, u6
   i1 = l73;
   i0 += i1;
   l58 = i0;
-  goto B99;
-  B100:;
+  goto B100;
+  B101:;
   i0 = l59;
   i1 = l58;
   i0 *= i1;
@@ -34632,7 +34635,7 @@ static void f30(module *self, u64 p0, u64 p1, u64 p2, u64 p3, u64 p4, u64 p5, u6
   i1 >>= (i2 & 31);
   i0 += i1;
   l58 = i0;
-  B99:;
+  B100:;
   i0 = l24;
   i1 = l18;
   i0 *= i1;
@@ -34654,13 +34657,13 @@ static void f30(module *self, u64 p0, u64 p1, u64 p2, u64 p3, u64 p4, u64 p5, u6
   i0 = l27;
   i1 = 19u;
   i0 = i0 != i1;
-  if (i0) {goto B101;}
+  if (i0) {goto B102;}
   j0 = p1;
   i1 = l58;
   i2 = l28;
   f43(self, j0, i1, i2); m = self->memory; if (NEVER(self->is_broken)) return;
-  goto B47;
-  B101:;
+  goto B49;
+  B102:;
   j0 = p1;
   i1 = 8u;
   i2 = 128u;
@@ -34672,44 +34675,44 @@ static void f30(module *self, u64 p0, u64 p1, u64 p2, u64 p3, u64 p4, u64 p5, u6
   i0 = l28;
   i1 = 4294967295u;
   i0 = (u32)((s32)i0 > (s32)i1);
-  if (i0) {goto B102;}
+  if (i0) {goto B103;}
   j0 = p1;
   i1 = 3u;
   i2 = 24u;
   f40(self, j0, i1, i2); m = self->memory; if (NEVER(self->is_broken)) return;
-  B102:;
+  B103:;
   j0 = p1;
   j1 = 2096ull;
   j0 += j1;
   l8 = j0;
   i0 = (u32)(j0);
   j0 = i64_load(j0);
-  p6 = j0;
+  p5 = j0;
   j1 = 16777216ull;
   i0 = j0 > j1;
-  if (i0) {goto B103;}
+  if (i0) {goto B104;}
   j0 = l8;
   i0 = (u32)(j0);
-  j1 = p6;
+  j1 = p5;
   j2 = 5ull;
   j1 += j2;
-  p6 = j1;
+  p5 = j1;
   i64_store(j0, j1);
-  j0 = p6;
+  j0 = p5;
   j1 = p1;
   j2 = 2104ull;
   j1 += j2;
   i1 = (u32)(j1);
   j1 = i64_load(j1);
   i0 = j0 > j1;
-  if (i0) {goto B103;}
+  if (i0) {goto B104;}
   j0 = p1;
   j1 = 2088ull;
   j0 += j1;
-  p5 = j0;
+  p6 = j0;
   i0 = (u32)(j0);
   j0 = i64_load(j0);
-  p6 = j0;
+  p5 = j0;
   j1 = p1;
   j2 = 2080ull;
   j1 += j2;
@@ -34720,27 +34723,27 @@ static void f30(module *self, u64 p0, u64 p1, u64 p2, u64 p3, u64 p4, u64 p5, u6
   j0 -= j1;
   j1 = 4ull;
   i0 = j0 > j1;
-  if (i0) {goto B104;}
+  if (i0) {goto B105;}
   j0 = p1;
   j1 = 2072ull;
   j0 += j1;
   j1 = 5ull;
   i0 = f15(self, j0, j1); m = self->memory; if (NEVER(self->is_broken)) return;
   i0 = !(i0);
-  if (i0) {goto B103;}
+  if (i0) {goto B104;}
   j0 = p1;
   j1 = 2088ull;
   j0 += j1;
   i0 = (u32)(j0);
   j0 = i64_load(j0);
-  p6 = j0;
+  p5 = j0;
   j0 = p1;
   j1 = 2080ull;
   j0 += j1;
   i0 = (u32)(j0);
   j0 = i64_load(j0);
   l8 = j0;
-  B104:;
+  B105:;
   j0 = p1;
   j1 = 2072ull;
   j0 += j1;
@@ -34758,9 +34761,9 @@ static void f30(module *self, u64 p0, u64 p1, u64 p2, u64 p3, u64 p4, u64 p5, u6
   i0 = (u32)(j0);
   i1 = 7u;
   i32_store8(j0, i1);
-  j0 = p5;
+  j0 = p6;
   i0 = (u32)(j0);
-  j1 = p6;
+  j1 = p5;
   i64_store(j0, j1);
   j0 = l9;
   i0 = (u32)(j0);
@@ -34772,7 +34775,7 @@ static void f30(module *self, u64 p0, u64 p1, u64 p2, u64 p3, u64 p4, u64 p5, u6
   i0 = (u32)(j0);
   j1 = l11;
   i64_store(j0, j1);
-  B103:;
+  B104:;
   j0 = l7;
   j1 = 80ull;
   j0 += j1;
@@ -34794,18 +34797,18 @@ static void f30(module *self, u64 p0, u64 p1, u64 p2, u64 p3, u64 p4, u64 p5, u6
   i0 = l28;
   i1 = 4294967295u;
   i0 = (u32)((s32)i0 > (s32)i1);
-  if (i0) {goto B105;}
+  if (i0) {goto B106;}
   j0 = p1;
   i1 = 3u;
   i2 = 0u;
   f40(self, j0, i1, i2); m = self->memory; if (NEVER(self->is_broken)) return;
-  B105:;
+  B106:;
   j0 = p1;
   i1 = 8u;
   i2 = 255u;
   f40(self, j0, i1, i2); m = self->memory; if (NEVER(self->is_broken)) return;
-  goto B47;
-  B60:;
+  goto B49;
+  B61:;
   j0 = p2;
   j1 = 2ull;
   j0 += j1;
@@ -34821,7 +34824,7 @@ static void f30(module *self, u64 p0, u64 p1, u64 p2, u64 p3, u64 p4, u64 p5, u6
   i0 = l27;
   i1 = 19u;
   i0 = i0 != i1;
-  if (i0) {goto B107;}
+  if (i0) {goto B108;}
   i0 = l58;
   i1 = l59;
   i0 *= i1;
@@ -34830,8 +34833,8 @@ static void f30(module *self, u64 p0, u64 p1, u64 p2, u64 p3, u64 p4, u64 p5, u6
   i1 = l73;
   i0 += i1;
   l58 = i0;
-  goto B106;
-  B107:;
+  goto B107;
+  B108:;
   i0 = l59;
   i1 = l58;
   i0 *= i1;
@@ -34840,7 +34843,7 @@ static void f30(module *self, u64 p0, u64 p1, u64 p2, u64 p3, u64 p4, u64 p5, u6
   i1 >>= (i2 & 31);
   i0 += i1;
   l58 = i0;
-  B106:;
+  B107:;
   i0 = l24;
   i1 = l18;
   i0 *= i1;
@@ -34862,39 +34865,39 @@ static void f30(module *self, u64 p0, u64 p1, u64 p2, u64 p3, u64 p4, u64 p5, u6
   i0 = l27;
   i1 = 19u;
   i0 = i0 != i1;
-  if (i0) {goto B109;}
+  if (i0) {goto B110;}
   j0 = p1;
   j1 = 2096ull;
   j0 += j1;
   l8 = j0;
   i0 = (u32)(j0);
   j0 = i64_load(j0);
-  p6 = j0;
+  p5 = j0;
   j1 = 16777216ull;
   i0 = j0 > j1;
-  if (i0) {goto B110;}
+  if (i0) {goto B111;}
   j0 = l8;
   i0 = (u32)(j0);
-  j1 = p6;
+  j1 = p5;
   j2 = 5ull;
   j1 += j2;
-  p6 = j1;
+  p5 = j1;
   i64_store(j0, j1);
-  j0 = p6;
+  j0 = p5;
   j1 = p1;
   j2 = 2104ull;
   j1 += j2;
   i1 = (u32)(j1);
   j1 = i64_load(j1);
   i0 = j0 > j1;
-  if (i0) {goto B110;}
+  if (i0) {goto B111;}
   j0 = p1;
   j1 = 2088ull;
   j0 += j1;
-  p5 = j0;
+  p6 = j0;
   i0 = (u32)(j0);
   j0 = i64_load(j0);
-  p6 = j0;
+  p5 = j0;
   j1 = p1;
   j2 = 2080ull;
   j1 += j2;
@@ -34905,27 +34908,27 @@ static void f30(module *self, u64 p0, u64 p1, u64 p2, u64 p3, u64 p4, u64 p5, u6
   j0 -= j1;
   j1 = 4ull;
   i0 = j0 > j1;
-  if (i0) {goto B111;}
+  if (i0) {goto B112;}
   j0 = p1;
   j1 = 2072ull;
   j0 += j1;
   j1 = 5ull;
   i0 = f15(self, j0, j1); m = self->memory; if (NEVER(self->is_broken)) return;
   i0 = !(i0);
-  if (i0) {goto B110;}
+  if (i0) {goto B111;}
   j0 = p1;
   j1 = 2088ull;
   j0 += j1;
   i0 = (u32)(j0);
   j0 = i64_load(j0);
-  p6 = j0;
+  p5 = j0;
   j0 = p1;
   j1 = 2080ull;
   j0 += j1;
   i0 = (u32)(j0);
   j0 = i64_load(j0);
   l8 = j0;
-  B111:;
+  B112:;
   j0 = p1;
   j1 = 2072ull;
   j0 += j1;
@@ -34943,9 +34946,9 @@ static void f30(module *self, u64 p0, u64 p1, u64 p2, u64 p3, u64 p4, u64 p5, u6
   i0 = (u32)(j0);
   i1 = 7u;
   i32_store8(j0, i1);
-  j0 = p5;
+  j0 = p6;
   i0 = (u32)(j0);
-  j1 = p6;
+  j1 = p5;
   i64_store(j0, j1);
   j0 = l9;
   i0 = (u32)(j0);
@@ -34957,7 +34960,7 @@ static void f30(module *self, u64 p0, u64 p1, u64 p2, u64 p3, u64 p4, u64 p5, u6
   i0 = (u32)(j0);
   j1 = l11;
   i64_store(j0, j1);
-  B110:;
+  B111:;
   j0 = l7;
   j1 = 88ull;
   j0 += j1;
@@ -34973,8 +34976,8 @@ static void f30(module *self, u64 p0, u64 p1, u64 p2, u64 p3, u64 p4, u64 p5, u6
   i2 = i32_load8_u(j2 + 88u);
   i0 = i2 ? i0 : i1;
   l58 = i0;
-  goto B108;
-  B109:;
+  goto B109;
+  B110:;
   j0 = p1;
   i1 = 4u;
   i2 = 0u;
@@ -34985,63 +34988,63 @@ static void f30(module *self, u64 p0, u64 p1, u64 p2, u64 p3, u64 p4, u64 p5, u6
   l8 = j0;
   i0 = (u32)(j0);
   j0 = i64_load(j0);
-  p6 = j0;
+  p5 = j0;
   j1 = 16777216ull;
   i0 = j0 > j1;
-  if (i0) {goto B112;}
+  if (i0) {goto B113;}
   j0 = l8;
   i0 = (u32)(j0);
-  j1 = p6;
+  j1 = p5;
   j2 = 5ull;
   j1 += j2;
-  p6 = j1;
+  p5 = j1;
   i64_store(j0, j1);
-  j0 = p6;
+  j0 = p5;
   j1 = p1;
   j2 = 2104ull;
   j1 += j2;
   i1 = (u32)(j1);
   j1 = i64_load(j1);
   i0 = j0 > j1;
-  if (i0) {goto B112;}
+  if (i0) {goto B113;}
   j0 = p1;
   j1 = 2088ull;
   j0 += j1;
   l9 = j0;
   i0 = (u32)(j0);
   j0 = i64_load(j0);
-  p5 = j0;
+  p6 = j0;
   j1 = p1;
   j2 = 2080ull;
   j1 += j2;
   l10 = j1;
   i1 = (u32)(j1);
   j1 = i64_load(j1);
-  p6 = j1;
+  p5 = j1;
   j0 -= j1;
   j1 = 4ull;
   i0 = j0 > j1;
-  if (i0) {goto B113;}
+  if (i0) {goto B114;}
   j0 = p1;
   j1 = 2072ull;
   j0 += j1;
   j1 = 5ull;
   i0 = f15(self, j0, j1); m = self->memory; if (NEVER(self->is_broken)) return;
   i0 = !(i0);
-  if (i0) {goto B112;}
+  if (i0) {goto B113;}
   j0 = p1;
   j1 = 2088ull;
   j0 += j1;
   i0 = (u32)(j0);
   j0 = i64_load(j0);
-  p5 = j0;
+  p6 = j0;
   j0 = p1;
   j1 = 2080ull;
   j0 += j1;
   i0 = (u32)(j0);
   j0 = i64_load(j0);
-  p6 = j0;
-  B113:;
+  p5 = j0;
+  B114:;
   j0 = p1;
   j1 = 2072ull;
   j0 += j1;
@@ -35049,7 +35052,7 @@ static void f30(module *self, u64 p0, u64 p1, u64 p2, u64 p3, u64 p4, u64 p5, u6
   i0 = (u32)(j0);
   j0 = i64_load(j0);
   p2 = j0;
-  j1 = p6;
+  j1 = p5;
   j0 += j1;
   l15 = j0;
   i0 = (u32)(j0);
@@ -35061,11 +35064,11 @@ static void f30(module *self, u64 p0, u64 p1, u64 p2, u64 p3, u64 p4, u64 p5, u6
   i32_store8(j0, i1);
   j0 = l9;
   i0 = (u32)(j0);
-  j1 = p5;
+  j1 = p6;
   i64_store(j0, j1);
   j0 = l10;
   i0 = (u32)(j0);
-  j1 = p6;
+  j1 = p5;
   j2 = 5ull;
   j1 += j2;
   i64_store(j0, j1);
@@ -35073,7 +35076,7 @@ static void f30(module *self, u64 p0, u64 p1, u64 p2, u64 p3, u64 p4, u64 p5, u6
   i0 = (u32)(j0);
   j1 = p2;
   i64_store(j0, j1);
-  B112:;
+  B113:;
   j0 = l7;
   j1 = 120ull;
   j0 += j1;
@@ -35098,7 +35101,7 @@ static void f30(module *self, u64 p0, u64 p1, u64 p2, u64 p3, u64 p4, u64 p5, u6
   l8 = j0;
   j1 = 16777216ull;
   i0 = j0 > j1;
-  if (i0) {goto B114;}
+  if (i0) {goto B115;}
   j0 = p1;
   j1 = 2096ull;
   j0 += j1;
@@ -35115,14 +35118,14 @@ static void f30(module *self, u64 p0, u64 p1, u64 p2, u64 p3, u64 p4, u64 p5, u6
   i1 = (u32)(j1);
   j1 = i64_load(j1);
   i0 = j0 > j1;
-  if (i0) {goto B114;}
+  if (i0) {goto B115;}
   j0 = p1;
   j1 = 2088ull;
   j0 += j1;
-  p5 = j0;
+  p6 = j0;
   i0 = (u32)(j0);
   j0 = i64_load(j0);
-  p6 = j0;
+  p5 = j0;
   j1 = p1;
   j2 = 2080ull;
   j1 += j2;
@@ -35133,27 +35136,27 @@ static void f30(module *self, u64 p0, u64 p1, u64 p2, u64 p3, u64 p4, u64 p5, u6
   j0 -= j1;
   j1 = 4ull;
   i0 = j0 > j1;
-  if (i0) {goto B115;}
+  if (i0) {goto B116;}
   j0 = p1;
   j1 = 2072ull;
   j0 += j1;
   j1 = 5ull;
   i0 = f15(self, j0, j1); m = self->memory; if (NEVER(self->is_broken)) return;
   i0 = !(i0);
-  if (i0) {goto B114;}
+  if (i0) {goto B115;}
   j0 = p1;
   j1 = 2088ull;
   j0 += j1;
   i0 = (u32)(j0);
   j0 = i64_load(j0);
-  p6 = j0;
+  p5 = j0;
   j0 = p1;
   j1 = 2080ull;
   j0 += j1;
   i0 = (u32)(j0);
   j0 = i64_load(j0);
   l8 = j0;
-  B115:;
+  B116:;
   j0 = p1;
   j1 = 2072ull;
   j0 += j1;
@@ -35171,9 +35174,9 @@ static void f30(module *self, u64 p0, u64 p1, u64 p2, u64 p3, u64 p4, u64 p5, u6
   i0 = (u32)(j0);
   i1 = 7u;
   i32_store8(j0, i1);
-  j0 = p5;
+  j0 = p6;
   i0 = (u32)(j0);
-  j1 = p6;
+  j1 = p5;
   i64_store(j0, j1);
   j0 = l9;
   i0 = (u32)(j0);
@@ -35185,7 +35188,7 @@ static void f30(module *self, u64 p0, u64 p1, u64 p2, u64 p3, u64 p4, u64 p5, u6
   i0 = (u32)(j0);
   j1 = l11;
   i64_store(j0, j1);
-  B114:;
+  B115:;
   j0 = l7;
   j1 = 112ull;
   j0 += j1;
@@ -35210,63 +35213,63 @@ static void f30(module *self, u64 p0, u64 p1, u64 p2, u64 p3, u64 p4, u64 p5, u6
   l8 = j0;
   i0 = (u32)(j0);
   j0 = i64_load(j0);
-  p6 = j0;
+  p5 = j0;
   j1 = 16777216ull;
   i0 = j0 > j1;
-  if (i0) {goto B116;}
+  if (i0) {goto B117;}
   j0 = l8;
   i0 = (u32)(j0);
-  j1 = p6;
+  j1 = p5;
   j2 = 5ull;
   j1 += j2;
-  p6 = j1;
+  p5 = j1;
   i64_store(j0, j1);
-  j0 = p6;
+  j0 = p5;
   j1 = p1;
   j2 = 2104ull;
   j1 += j2;
   i1 = (u32)(j1);
   j1 = i64_load(j1);
   i0 = j0 > j1;
-  if (i0) {goto B116;}
+  if (i0) {goto B117;}
   j0 = p1;
   j1 = 2088ull;
   j0 += j1;
   l9 = j0;
   i0 = (u32)(j0);
   j0 = i64_load(j0);
-  p5 = j0;
+  p6 = j0;
   j1 = p1;
   j2 = 2080ull;
   j1 += j2;
   l10 = j1;
   i1 = (u32)(j1);
   j1 = i64_load(j1);
-  p6 = j1;
+  p5 = j1;
   j0 -= j1;
   j1 = 4ull;
   i0 = j0 > j1;
-  if (i0) {goto B117;}
+  if (i0) {goto B118;}
   j0 = p1;
   j1 = 2072ull;
   j0 += j1;
   j1 = 5ull;
   i0 = f15(self, j0, j1); m = self->memory; if (NEVER(self->is_broken)) return;
   i0 = !(i0);
-  if (i0) {goto B116;}
+  if (i0) {goto B117;}
   j0 = p1;
   j1 = 2088ull;
   j0 += j1;
   i0 = (u32)(j0);
   j0 = i64_load(j0);
-  p5 = j0;
+  p6 = j0;
   j0 = p1;
   j1 = 2080ull;
   j0 += j1;
   i0 = (u32)(j0);
   j0 = i64_load(j0);
-  p6 = j0;
-  B117:;
+  p5 = j0;
+  B118:;
   j0 = p1;
   j1 = 2072ull;
   j0 += j1;
@@ -35274,7 +35277,7 @@ static void f30(module *self, u64 p0, u64 p1, u64 p2, u64 p3, u64 p4, u64 p5, u6
   i0 = (u32)(j0);
   j0 = i64_load(j0);
   p2 = j0;
-  j1 = p6;
+  j1 = p5;
   j0 += j1;
   l15 = j0;
   i0 = (u32)(j0);
@@ -35286,11 +35289,11 @@ static void f30(module *self, u64 p0, u64 p1, u64 p2, u64 p3, u64 p4, u64 p5, u6
   i32_store8(j0, i1);
   j0 = l9;
   i0 = (u32)(j0);
-  j1 = p5;
+  j1 = p6;
   i64_store(j0, j1);
   j0 = l10;
   i0 = (u32)(j0);
-  j1 = p6;
+  j1 = p5;
   j2 = 5ull;
   j1 += j2;
   i64_store(j0, j1);
@@ -35298,7 +35301,7 @@ static void f30(module *self, u64 p0, u64 p1, u64 p2, u64 p3, u64 p4, u64 p5, u6
   i0 = (u32)(j0);
   j1 = p2;
   i64_store(j0, j1);
-  B116:;
+  B117:;
   j0 = l7;
   j1 = 104ull;
   j0 += j1;
@@ -35323,7 +35326,7 @@ static void f30(module *self, u64 p0, u64 p1, u64 p2, u64 p3, u64 p4, u64 p5, u6
   l8 = j0;
   j1 = 16777216ull;
   i0 = j0 > j1;
-  if (i0) {goto B118;}
+  if (i0) {goto B119;}
   j0 = p1;
   j1 = 2096ull;
   j0 += j1;
@@ -35340,14 +35343,14 @@ static void f30(module *self, u64 p0, u64 p1, u64 p2, u64 p3, u64 p4, u64 p5, u6
   i1 = (u32)(j1);
   j1 = i64_load(j1);
   i0 = j0 > j1;
-  if (i0) {goto B118;}
+  if (i0) {goto B119;}
   j0 = p1;
   j1 = 2088ull;
   j0 += j1;
-  p5 = j0;
+  p6 = j0;
   i0 = (u32)(j0);
   j0 = i64_load(j0);
-  p6 = j0;
+  p5 = j0;
   j1 = p1;
   j2 = 2080ull;
   j1 += j2;
@@ -35358,27 +35361,27 @@ static void f30(module *self, u64 p0, u64 p1, u64 p2, u64 p3, u64 p4, u64 p5, u6
   j0 -= j1;
   j1 = 4ull;
   i0 = j0 > j1;
-  if (i0) {goto B119;}
+  if (i0) {goto B120;}
   j0 = p1;
   j1 = 2072ull;
   j0 += j1;
   j1 = 5ull;
   i0 = f15(self, j0, j1); m = self->memory; if (NEVER(self->is_broken)) return;
   i0 = !(i0);
-  if (i0) {goto B118;}
+  if (i0) {goto B119;}
   j0 = p1;
   j1 = 2088ull;
   j0 += j1;
   i0 = (u32)(j0);
   j0 = i64_load(j0);
-  p6 = j0;
+  p5 = j0;
   j0 = p1;
   j1 = 2080ull;
   j0 += j1;
   i0 = (u32)(j0);
   j0 = i64_load(j0);
   l8 = j0;
-  B119:;
+  B120:;
   j0 = p1;
   j1 = 2072ull;
   j0 += j1;
@@ -35396,9 +35399,9 @@ static void f30(module *self, u64 p0, u64 p1, u64 p2, u64 p3, u64 p4, u64 p5, u6
   i0 = (u32)(j0);
   i1 = 7u;
   i32_store8(j0, i1);
-  j0 = p5;
+  j0 = p6;
   i0 = (u32)(j0);
-  j1 = p6;
+  j1 = p5;
   i64_store(j0, j1);
   j0 = l9;
   i0 = (u32)(j0);
@@ -35410,7 +35413,7 @@ static void f30(module *self, u64 p0, u64 p1, u64 p2, u64 p3, u64 p4, u64 p5, u6
   i0 = (u32)(j0);
   j1 = l11;
   i64_store(j0, j1);
-  B118:;
+  B119:;
   j0 = l7;
   j1 = 96ull;
   j0 += j1;
@@ -35490,7 +35493,7 @@ static void f30(module *self, u64 p0, u64 p1, u64 p2, u64 p3, u64 p4, u64 p5, u6
   i1 &= i2;
   i0 |= i1;
   l58 = i0;
-  B108:;
+  B109:;
   i0 = l40;
   i1 = 4294967040u;
   i0 &= i1;
@@ -35501,28 +35504,28 @@ static void f30(module *self, u64 p0, u64 p1, u64 p2, u64 p3, u64 p4, u64 p5, u6
   l59 = i0;
   j0 = l12;
   l8 = j0;
-  goto B45;
-  B59:;
+  goto B47;
+  B60:;
   i0 = l18;
   i1 = 7u;
   i0 = i0 == i1;
-  if (i0) {goto B47;}
+  if (i0) {goto B49;}
   j0 = l7;
   i0 = (u32)(j0);
   i1 = 0u;
-  i32_store(j0 + 201, i1);
+  i32_store(j0 + 329, i1);
   j0 = l7;
   i0 = (u32)(j0);
   j1 = p2;
-  i64_store(j0 + 192, j1);
+  i64_store(j0 + 320, j1);
   j0 = l7;
   i0 = (u32)(j0);
   j1 = p3;
-  i64_store(j0 + 184, j1);
+  i64_store(j0 + 312, j1);
   j0 = l7;
   i0 = (u32)(j0);
   i1 = 0u;
-  i32_store(j0 + 204, i1);
+  i32_store(j0 + 332, i1);
   j0 = l7;
   i0 = (u32)(j0);
   j1 = p2;
@@ -35531,7 +35534,7 @@ static void f30(module *self, u64 p0, u64 p1, u64 p2, u64 p3, u64 p4, u64 p5, u6
   i1 = (u32)(j1);
   i1 = i32_load8_u(j1);
   l58 = i1;
-  i32_store8(j0 + 200, i1);
+  i32_store8(j0 + 328, i1);
   j0 = p2;
   i1 = l58;
   j1 = (u64)(i1);
@@ -35547,7 +35550,7 @@ static void f30(module *self, u64 p0, u64 p1, u64 p2, u64 p3, u64 p4, u64 p5, u6
   i0 = (u32)(j0);
   j1 = p1;
   j2 = l7;
-  j3 = 184ull;
+  j3 = 312ull;
   j2 += j3;
   j3 = l8;
   i3 = (u32)(j3);
@@ -35561,8 +35564,8 @@ static void f30(module *self, u64 p0, u64 p1, u64 p2, u64 p3, u64 p4, u64 p5, u6
   j1 = p2;
   i2 = l58;
   f37(self, j0, j1, i2); m = self->memory; if (NEVER(self->is_broken)) return;
-  goto B47;
-  B58:;
+  goto B49;
+  B59:;
   j0 = p2;
   j1 = 26ull;
   j0 += j1;
@@ -35585,8 +35588,8 @@ static void f30(module *self, u64 p0, u64 p1, u64 p2, u64 p3, u64 p4, u64 p5, u6
   i1 = l27;
   i0 |= i1;
   l59 = i0;
-  goto B45;
-  B57:;
+  goto B47;
+  B58:;
   i0 = l73;
   i1 = 8u;
   i0 >>= (i1 & 31);
@@ -35603,34 +35606,34 @@ static void f30(module *self, u64 p0, u64 p1, u64 p2, u64 p3, u64 p4, u64 p5, u6
   j0 &= j1;
   i0 = (u32)(j0);
   switch (i0) {
-    case 0: goto B130;
-    case 1: goto B129;
-    case 2: goto B128;
-    case 3: goto B127;
-    case 4: goto B126;
-    case 5: goto B125;
-    case 6: goto B124;
-    case 7: goto B123;
-    case 8: goto B122;
-    case 9: goto B121;
-    case 10: goto B120;
-    default: goto B130;
+    case 0: goto B131;
+    case 1: goto B130;
+    case 2: goto B129;
+    case 3: goto B128;
+    case 4: goto B127;
+    case 5: goto B126;
+    case 6: goto B125;
+    case 7: goto B124;
+    case 8: goto B123;
+    case 9: goto B122;
+    case 10: goto B121;
+    default: goto B131;
   }
-  B130:;
+  B131:;
   j0 = p1;
   i1 = l27;
   i2 = l59;
   i3 = l58;
   f45(self, j0, i1, i2, i3); m = self->memory; if (NEVER(self->is_broken)) return;
-  goto B47;
-  B129:;
+  goto B49;
+  B130:;
   j0 = p1;
   i1 = l27;
   i2 = 17u;
   i3 = l59;
   f45(self, j0, i1, i2, i3); m = self->memory; if (NEVER(self->is_broken)) return;
-  goto B47;
-  B128:;
+  goto B49;
+  B129:;
   i0 = l27;
   i1 = 6u;
   i0 += i1;
@@ -35644,7 +35647,7 @@ static void f30(module *self, u64 p0, u64 p1, u64 p2, u64 p3, u64 p4, u64 p5, u6
   p6 = j0;
   j1 = 16777216ull;
   i0 = j0 > j1;
-  if (i0) {goto B131;}
+  if (i0) {goto B132;}
   j0 = l8;
   i0 = (u32)(j0);
   j1 = p6;
@@ -35659,7 +35662,7 @@ static void f30(module *self, u64 p0, u64 p1, u64 p2, u64 p3, u64 p4, u64 p5, u6
   i1 = (u32)(j1);
   j1 = i64_load(j1);
   i0 = j0 > j1;
-  if (i0) {goto B131;}
+  if (i0) {goto B132;}
   j0 = p1;
   j1 = 2088ull;
   j0 += j1;
@@ -35677,14 +35680,14 @@ static void f30(module *self, u64 p0, u64 p1, u64 p2, u64 p3, u64 p4, u64 p5, u6
   j0 -= j1;
   j1 = 2ull;
   i0 = j0 > j1;
-  if (i0) {goto B132;}
+  if (i0) {goto B133;}
   j0 = p1;
   j1 = 2072ull;
   j0 += j1;
   j1 = 3ull;
   i0 = f15(self, j0, j1); m = self->memory; if (NEVER(self->is_broken)) return;
   i0 = !(i0);
-  if (i0) {goto B131;}
+  if (i0) {goto B132;}
   j0 = p1;
   j1 = 2088ull;
   j0 += j1;
@@ -35697,7 +35700,7 @@ static void f30(module *self, u64 p0, u64 p1, u64 p2, u64 p3, u64 p4, u64 p5, u6
   i0 = (u32)(j0);
   j0 = i64_load(j0);
   l8 = j0;
-  B132:;
+  B133:;
   j0 = p1;
   j1 = 2072ull;
   j0 += j1;
@@ -35737,7 +35740,7 @@ static void f30(module *self, u64 p0, u64 p1, u64 p2, u64 p3, u64 p4, u64 p5, u6
   i0 = (u32)(j0);
   j1 = l15;
   i64_store(j0, j1);
-  B131:;
+  B132:;
   j0 = l7;
   j1 = 128ull;
   j0 += j1;
@@ -35849,8 +35852,8 @@ static void f30(module *self, u64 p0, u64 p1, u64 p2, u64 p3, u64 p4, u64 p5, u6
   j0 = p1;
   i1 = l27;
   f47(self, j0, i1); m = self->memory; if (NEVER(self->is_broken)) return;
-  goto B47;
-  B127:;
+  goto B49;
+  B128:;
   i0 = l27;
   i1 = 6u;
   i0 += i1;
@@ -35861,25 +35864,25 @@ static void f30(module *self, u64 p0, u64 p1, u64 p2, u64 p3, u64 p4, u64 p5, u6
   l8 = j0;
   i0 = (u32)(j0);
   j0 = i64_load(j0);
-  p6 = j0;
+  p5 = j0;
   j1 = 16777216ull;
   i0 = j0 > j1;
-  if (i0) {goto B133;}
+  if (i0) {goto B134;}
   j0 = l8;
   i0 = (u32)(j0);
-  j1 = p6;
+  j1 = p5;
   j2 = 3ull;
   j1 += j2;
-  p6 = j1;
+  p5 = j1;
   i64_store(j0, j1);
-  j0 = p6;
+  j0 = p5;
   j1 = p1;
   j2 = 2104ull;
   j1 += j2;
   i1 = (u32)(j1);
   j1 = i64_load(j1);
   i0 = j0 > j1;
-  if (i0) {goto B133;}
+  if (i0) {goto B134;}
   j0 = p1;
   j1 = 2088ull;
   j0 += j1;
@@ -35893,18 +35896,18 @@ static void f30(module *self, u64 p0, u64 p1, u64 p2, u64 p3, u64 p4, u64 p5, u6
   l11 = j1;
   i1 = (u32)(j1);
   j1 = i64_load(j1);
-  p6 = j1;
+  p5 = j1;
   j0 -= j1;
   j1 = 2ull;
   i0 = j0 > j1;
-  if (i0) {goto B134;}
+  if (i0) {goto B135;}
   j0 = p1;
   j1 = 2072ull;
   j0 += j1;
   j1 = 3ull;
   i0 = f15(self, j0, j1); m = self->memory; if (NEVER(self->is_broken)) return;
   i0 = !(i0);
-  if (i0) {goto B133;}
+  if (i0) {goto B134;}
   j0 = p1;
   j1 = 2088ull;
   j0 += j1;
@@ -35916,8 +35919,8 @@ static void f30(module *self, u64 p0, u64 p1, u64 p2, u64 p3, u64 p4, u64 p5, u6
   j0 += j1;
   i0 = (u32)(j0);
   j0 = i64_load(j0);
-  p6 = j0;
-  B134:;
+  p5 = j0;
+  B135:;
   j0 = p1;
   j1 = 2072ull;
   j0 += j1;
@@ -35925,9 +35928,9 @@ static void f30(module *self, u64 p0, u64 p1, u64 p2, u64 p3, u64 p4, u64 p5, u6
   i0 = (u32)(j0);
   j0 = i64_load(j0);
   l15 = j0;
-  j1 = p6;
+  j1 = p5;
   j0 += j1;
-  p5 = j0;
+  p6 = j0;
   i0 = (u32)(j0);
   i1 = l58;
   i2 = 65280u;
@@ -35935,11 +35938,11 @@ static void f30(module *self, u64 p0, u64 p1, u64 p2, u64 p3, u64 p4, u64 p5, u6
   i2 = 8u;
   i1 >>= (i2 & 31);
   i32_store8(j0 + 2, i1);
-  j0 = p5;
+  j0 = p6;
   i0 = (u32)(j0);
   i1 = l58;
   i32_store8(j0 + 1, i1);
-  j0 = p5;
+  j0 = p6;
   i0 = (u32)(j0);
   i1 = 3u;
   i32_store8(j0, i1);
@@ -35949,7 +35952,7 @@ static void f30(module *self, u64 p0, u64 p1, u64 p2, u64 p3, u64 p4, u64 p5, u6
   i64_store(j0, j1);
   j0 = l11;
   i0 = (u32)(j0);
-  j1 = p6;
+  j1 = p5;
   j2 = 3ull;
   j1 += j2;
   i64_store(j0, j1);
@@ -35957,7 +35960,7 @@ static void f30(module *self, u64 p0, u64 p1, u64 p2, u64 p3, u64 p4, u64 p5, u6
   i0 = (u32)(j0);
   j1 = l15;
   i64_store(j0, j1);
-  B133:;
+  B134:;
   j0 = l7;
   j1 = 136ull;
   j0 += j1;
@@ -35970,7 +35973,7 @@ static void f30(module *self, u64 p0, u64 p1, u64 p2, u64 p3, u64 p4, u64 p5, u6
   l8 = j0;
   j1 = 16777216ull;
   i0 = j0 > j1;
-  if (i0) {goto B135;}
+  if (i0) {goto B136;}
   j0 = p1;
   j1 = 2096ull;
   j0 += j1;
@@ -35987,14 +35990,14 @@ static void f30(module *self, u64 p0, u64 p1, u64 p2, u64 p3, u64 p4, u64 p5, u6
   i1 = (u32)(j1);
   j1 = i64_load(j1);
   i0 = j0 > j1;
-  if (i0) {goto B135;}
+  if (i0) {goto B136;}
   j0 = p1;
   j1 = 2088ull;
   j0 += j1;
-  p5 = j0;
+  p6 = j0;
   i0 = (u32)(j0);
   j0 = i64_load(j0);
-  p6 = j0;
+  p5 = j0;
   j1 = p1;
   j2 = 2080ull;
   j1 += j2;
@@ -36005,27 +36008,27 @@ static void f30(module *self, u64 p0, u64 p1, u64 p2, u64 p3, u64 p4, u64 p5, u6
   j0 -= j1;
   j1 = 3ull;
   i0 = j0 > j1;
-  if (i0) {goto B136;}
+  if (i0) {goto B137;}
   j0 = p1;
   j1 = 2072ull;
   j0 += j1;
   j1 = 4ull;
   i0 = f15(self, j0, j1); m = self->memory; if (NEVER(self->is_broken)) return;
   i0 = !(i0);
-  if (i0) {goto B135;}
+  if (i0) {goto B136;}
   j0 = p1;
   j1 = 2088ull;
   j0 += j1;
   i0 = (u32)(j0);
   j0 = i64_load(j0);
-  p6 = j0;
+  p5 = j0;
   j0 = p1;
   j1 = 2080ull;
   j0 += j1;
   i0 = (u32)(j0);
   j0 = i64_load(j0);
   l8 = j0;
-  B136:;
+  B137:;
   j0 = p1;
   j1 = 2072ull;
   j0 += j1;
@@ -36038,9 +36041,9 @@ static void f30(module *self, u64 p0, u64 p1, u64 p2, u64 p3, u64 p4, u64 p5, u6
   i0 = (u32)(j0);
   i1 = 805552129u;
   i32_store(j0, i1);
-  j0 = p5;
+  j0 = p6;
   i0 = (u32)(j0);
-  j1 = p6;
+  j1 = p5;
   i64_store(j0, j1);
   j0 = l9;
   i0 = (u32)(j0);
@@ -36052,7 +36055,7 @@ static void f30(module *self, u64 p0, u64 p1, u64 p2, u64 p3, u64 p4, u64 p5, u6
   i0 = (u32)(j0);
   j1 = l11;
   i64_store(j0, j1);
-  B135:;
+  B136:;
   j0 = p1;
   j1 = 146ull;
   j0 += j1;
@@ -36065,7 +36068,7 @@ static void f30(module *self, u64 p0, u64 p1, u64 p2, u64 p3, u64 p4, u64 p5, u6
   l58 = i0;
   i1 = 1u;
   i0 = i0 != i1;
-  if (i0) {goto B139;}
+  if (i0) {goto B140;}
   j0 = p1;
   j1 = 204ull;
   j0 += j1;
@@ -36077,26 +36080,26 @@ static void f30(module *self, u64 p0, u64 p1, u64 p2, u64 p3, u64 p4, u64 p5, u6
   l18 = i0;
   i1 = 20u;
   i0 = i0 > i1;
-  if (i0) {goto B137;}
+  if (i0) {goto B138;}
   i0 = l18;
   i1 = 15u;
   i0 = i0 > i1;
-  if (i0) {goto B140;}
+  if (i0) {goto B141;}
   i0 = l24;
   i1 = 32u;
   i0 &= i1;
-  if (i0) {goto B138;}
-  B140:;
+  if (i0) {goto B139;}
+  B141:;
   j0 = p1;
   i1 = l18;
   j1 = (u64)(i1);
-  p6 = j1;
+  p5 = j1;
   j0 += j1;
   j1 = 167ull;
   j0 += j1;
   i0 = (u32)(j0);
   j1 = l8;
-  j2 = p6;
+  j2 = p5;
   j1 += j2;
   i1 = (u32)(j1);
   i1 = i32_load8_u(j1);
@@ -36104,7 +36107,7 @@ static void f30(module *self, u64 p0, u64 p1, u64 p2, u64 p3, u64 p4, u64 p5, u6
   i1 &= i2;
   i32_store8(j0, i1);
   j0 = l7;
-  j1 = 184ull;
+  j1 = 312ull;
   j0 += j1;
   j1 = l8;
   f28(self, j0, j1);
@@ -36114,7 +36117,7 @@ static void f30(module *self, u64 p0, u64 p1, u64 p2, u64 p3, u64 p4, u64 p5, u6
   i0 = (u32)(j0);
   j1 = l7;
   i1 = (u32)(j1);
-  j1 = i64_load(j1 + 192u);
+  j1 = i64_load(j1 + 320u);
   i64_store(j0, j1);
   j0 = p1;
   j1 = 188ull;
@@ -36122,17 +36125,17 @@ static void f30(module *self, u64 p0, u64 p1, u64 p2, u64 p3, u64 p4, u64 p5, u6
   i0 = (u32)(j0);
   j1 = l7;
   i1 = (u32)(j1);
-  j1 = i64_load(j1 + 184u);
+  j1 = i64_load(j1 + 312u);
   i64_store(j0, j1);
-  goto B138;
-  B139:;
+  goto B139;
+  B140:;
   j0 = p1;
   j1 = 204ull;
   j0 += j1;
   i0 = (u32)(j0);
   i1 = 48u;
   i32_store8(j0, i1);
-  B138:;
+  B139:;
   j0 = p1;
   j1 = 205ull;
   j0 += j1;
@@ -36141,70 +36144,70 @@ static void f30(module *self, u64 p0, u64 p1, u64 p2, u64 p3, u64 p4, u64 p5, u6
   i2 = 1u;
   i1 ^= i2;
   i32_store8(j0, i1);
-  B137:;
+  B138:;
   j0 = p1;
   j1 = 2096ull;
   j0 += j1;
-  p6 = j0;
+  p5 = j0;
   i0 = (u32)(j0);
   j0 = i64_load(j0);
-  p5 = j0;
+  p6 = j0;
   j1 = 16777216ull;
   i0 = j0 > j1;
-  if (i0) {goto B141;}
-  j0 = p6;
+  if (i0) {goto B142;}
+  j0 = p5;
   i0 = (u32)(j0);
-  j1 = p5;
+  j1 = p6;
   j2 = 3ull;
   j1 += j2;
-  p5 = j1;
+  p6 = j1;
   i64_store(j0, j1);
-  j0 = p5;
+  j0 = p6;
   j1 = p1;
   j2 = 2104ull;
   j1 += j2;
   i1 = (u32)(j1);
   j1 = i64_load(j1);
   i0 = j0 > j1;
-  if (i0) {goto B141;}
+  if (i0) {goto B142;}
   j0 = p1;
   j1 = 2088ull;
   j0 += j1;
   l9 = j0;
   i0 = (u32)(j0);
   j0 = i64_load(j0);
-  p5 = j0;
+  p6 = j0;
   j1 = p1;
   j2 = 2080ull;
   j1 += j2;
   l10 = j1;
   i1 = (u32)(j1);
   j1 = i64_load(j1);
-  p6 = j1;
+  p5 = j1;
   j0 -= j1;
   j1 = 2ull;
   i0 = j0 > j1;
-  if (i0) {goto B142;}
+  if (i0) {goto B143;}
   j0 = p1;
   j1 = 2072ull;
   j0 += j1;
   j1 = 3ull;
   i0 = f15(self, j0, j1); m = self->memory; if (NEVER(self->is_broken)) return;
   i0 = !(i0);
-  if (i0) {goto B141;}
+  if (i0) {goto B142;}
   j0 = p1;
   j1 = 2088ull;
   j0 += j1;
   i0 = (u32)(j0);
   j0 = i64_load(j0);
-  p5 = j0;
+  p6 = j0;
   j0 = p1;
   j1 = 2080ull;
   j0 += j1;
   i0 = (u32)(j0);
   j0 = i64_load(j0);
-  p6 = j0;
-  B142:;
+  p5 = j0;
+  B143:;
   j0 = p1;
   j1 = 2072ull;
   j0 += j1;
@@ -36212,7 +36215,7 @@ static void f30(module *self, u64 p0, u64 p1, u64 p2, u64 p3, u64 p4, u64 p5, u6
   i0 = (u32)(j0);
   j0 = i64_load(j0);
   p2 = j0;
-  j1 = p6;
+  j1 = p5;
   j0 += j1;
   l15 = j0;
   i0 = (u32)(j0);
@@ -36224,11 +36227,11 @@ static void f30(module *self, u64 p0, u64 p1, u64 p2, u64 p3, u64 p4, u64 p5, u6
   i32_store16(j0, i1);
   j0 = l9;
   i0 = (u32)(j0);
-  j1 = p5;
+  j1 = p6;
   i64_store(j0, j1);
   j0 = l10;
   i0 = (u32)(j0);
-  j1 = p6;
+  j1 = p5;
   j2 = 3ull;
   j1 += j2;
   i64_store(j0, j1);
@@ -36236,7 +36239,7 @@ static void f30(module *self, u64 p0, u64 p1, u64 p2, u64 p3, u64 p4, u64 p5, u6
   i0 = (u32)(j0);
   j1 = p2;
   i64_store(j0, j1);
-  B141:;
+  B142:;
   i0 = 247u;
   l58 = i0;
   j0 = p1;
@@ -36249,7 +36252,7 @@ static void f30(module *self, u64 p0, u64 p1, u64 p2, u64 p3, u64 p4, u64 p5, u6
   l18 = i0;
   i1 = 20u;
   i0 = i0 > i1;
-  if (i0) {goto B143;}
+  if (i0) {goto B144;}
   j0 = p1;
   i1 = l18;
   j1 = (u64)(i1);
@@ -36261,7 +36264,7 @@ static void f30(module *self, u64 p0, u64 p1, u64 p2, u64 p3, u64 p4, u64 p5, u6
   i1 = 4294967287u;
   i0 &= i1;
   l58 = i0;
-  B143:;
+  B144:;
   i0 = l58;
   i1 = l59;
   i2 = 3u;
@@ -36271,66 +36274,66 @@ static void f30(module *self, u64 p0, u64 p1, u64 p2, u64 p3, u64 p4, u64 p5, u6
   j0 = p1;
   j1 = 2096ull;
   j0 += j1;
-  p6 = j0;
+  p5 = j0;
   i0 = (u32)(j0);
   j0 = i64_load(j0);
-  p5 = j0;
+  p6 = j0;
   j1 = 16777216ull;
   i0 = j0 > j1;
-  if (i0) {goto B144;}
-  j0 = p6;
+  if (i0) {goto B145;}
+  j0 = p5;
   i0 = (u32)(j0);
-  j1 = p5;
+  j1 = p6;
   j2 = 4ull;
   j1 += j2;
-  p5 = j1;
+  p6 = j1;
   i64_store(j0, j1);
-  j0 = p5;
+  j0 = p6;
   j1 = p1;
   j2 = 2104ull;
   j1 += j2;
   i1 = (u32)(j1);
   j1 = i64_load(j1);
   i0 = j0 > j1;
-  if (i0) {goto B144;}
+  if (i0) {goto B145;}
   j0 = p1;
   j1 = 2088ull;
   j0 += j1;
   l9 = j0;
   i0 = (u32)(j0);
   j0 = i64_load(j0);
-  p5 = j0;
+  p6 = j0;
   j1 = p1;
   j2 = 2080ull;
   j1 += j2;
   l10 = j1;
   i1 = (u32)(j1);
   j1 = i64_load(j1);
-  p6 = j1;
+  p5 = j1;
   j0 -= j1;
   j1 = 3ull;
   i0 = j0 > j1;
-  if (i0) {goto B145;}
+  if (i0) {goto B146;}
   j0 = p1;
   j1 = 2072ull;
   j0 += j1;
   j1 = 4ull;
   i0 = f15(self, j0, j1); m = self->memory; if (NEVER(self->is_broken)) return;
   i0 = !(i0);
-  if (i0) {goto B144;}
+  if (i0) {goto B145;}
   j0 = p1;
   j1 = 2088ull;
   j0 += j1;
   i0 = (u32)(j0);
   j0 = i64_load(j0);
-  p5 = j0;
+  p6 = j0;
   j0 = p1;
   j1 = 2080ull;
   j0 += j1;
   i0 = (u32)(j0);
   j0 = i64_load(j0);
-  p6 = j0;
-  B145:;
+  p5 = j0;
+  B146:;
   j0 = p1;
   j1 = 2072ull;
   j0 += j1;
@@ -36338,7 +36341,7 @@ static void f30(module *self, u64 p0, u64 p1, u64 p2, u64 p3, u64 p4, u64 p5, u6
   i0 = (u32)(j0);
   j0 = i64_load(j0);
   p2 = j0;
-  j1 = p6;
+  j1 = p5;
   j0 += j1;
   i0 = (u32)(j0);
   i1 = l58;
@@ -36349,11 +36352,11 @@ static void f30(module *self, u64 p0, u64 p1, u64 p2, u64 p3, u64 p4, u64 p5, u6
   i32_store(j0, i1);
   j0 = l9;
   i0 = (u32)(j0);
-  j1 = p5;
+  j1 = p6;
   i64_store(j0, j1);
   j0 = l10;
   i0 = (u32)(j0);
-  j1 = p6;
+  j1 = p5;
   j2 = 4ull;
   j1 += j2;
   i64_store(j0, j1);
@@ -36361,7 +36364,7 @@ static void f30(module *self, u64 p0, u64 p1, u64 p2, u64 p3, u64 p4, u64 p5, u6
   i0 = (u32)(j0);
   j1 = p2;
   i64_store(j0, j1);
-  B144:;
+  B145:;
   j0 = p1;
   j1 = 205ull;
   j0 += j1;
@@ -36370,7 +36373,7 @@ static void f30(module *self, u64 p0, u64 p1, u64 p2, u64 p3, u64 p4, u64 p5, u6
   l59 = i0;
   i1 = 1u;
   i0 = i0 != i1;
-  if (i0) {goto B148;}
+  if (i0) {goto B149;}
   j0 = p1;
   j1 = 204ull;
   j0 += j1;
@@ -36382,26 +36385,26 @@ static void f30(module *self, u64 p0, u64 p1, u64 p2, u64 p3, u64 p4, u64 p5, u6
   l18 = i0;
   i1 = 20u;
   i0 = i0 > i1;
-  if (i0) {goto B146;}
+  if (i0) {goto B147;}
   i0 = l18;
   i1 = 15u;
   i0 = i0 > i1;
-  if (i0) {goto B149;}
+  if (i0) {goto B150;}
   i0 = l24;
   i1 = 32u;
   i0 &= i1;
-  if (i0) {goto B147;}
-  B149:;
+  if (i0) {goto B148;}
+  B150:;
   j0 = p1;
   i1 = l18;
   j1 = (u64)(i1);
-  p6 = j1;
+  p5 = j1;
   j0 += j1;
   j1 = 167ull;
   j0 += j1;
   i0 = (u32)(j0);
   j1 = l8;
-  j2 = p6;
+  j2 = p5;
   j1 += j2;
   i1 = (u32)(j1);
   i1 = i32_load8_u(j1);
@@ -36409,7 +36412,7 @@ static void f30(module *self, u64 p0, u64 p1, u64 p2, u64 p3, u64 p4, u64 p5, u6
   i1 &= i2;
   i32_store8(j0, i1);
   j0 = l7;
-  j1 = 184ull;
+  j1 = 312ull;
   j0 += j1;
   j1 = l8;
   f28(self, j0, j1);
@@ -36419,7 +36422,7 @@ static void f30(module *self, u64 p0, u64 p1, u64 p2, u64 p3, u64 p4, u64 p5, u6
   i0 = (u32)(j0);
   j1 = l7;
   i1 = (u32)(j1);
-  j1 = i64_load(j1 + 192u);
+  j1 = i64_load(j1 + 320u);
   i64_store(j0, j1);
   j0 = p1;
   j1 = 188ull;
@@ -36427,10 +36430,10 @@ static void f30(module *self, u64 p0, u64 p1, u64 p2, u64 p3, u64 p4, u64 p5, u6
   i0 = (u32)(j0);
   j1 = l7;
   i1 = (u32)(j1);
-  j1 = i64_load(j1 + 184u);
+  j1 = i64_load(j1 + 312u);
   i64_store(j0, j1);
-  goto B147;
-  B148:;
+  goto B148;
+  B149:;
   j0 = p1;
   j1 = 204ull;
   j0 += j1;
@@ -36439,7 +36442,7 @@ static void f30(module *self, u64 p0, u64 p1, u64 p2, u64 p3, u64 p4, u64 p5, u6
   i2 = 63u;
   i1 &= i2;
   i32_store8(j0, i1);
-  B147:;
+  B148:;
   j0 = p1;
   j1 = 205ull;
   j0 += j1;
@@ -36448,12 +36451,12 @@ static void f30(module *self, u64 p0, u64 p1, u64 p2, u64 p3, u64 p4, u64 p5, u6
   i2 = 1u;
   i1 ^= i2;
   i32_store8(j0, i1);
-  B146:;
+  B147:;
   j0 = p1;
   i1 = l27;
   f47(self, j0, i1); m = self->memory; if (NEVER(self->is_broken)) return;
-  goto B47;
-  B126:;
+  goto B49;
+  B127:;
   i0 = l27;
   i1 = 6u;
   i0 += i1;
@@ -36464,32 +36467,32 @@ static void f30(module *self, u64 p0, u64 p1, u64 p2, u64 p3, u64 p4, u64 p5, u6
   l8 = j0;
   i0 = (u32)(j0);
   j0 = i64_load(j0);
-  p6 = j0;
+  p5 = j0;
   j1 = 16777216ull;
   i0 = j0 > j1;
-  if (i0) {goto B150;}
+  if (i0) {goto B151;}
   j0 = l8;
   i0 = (u32)(j0);
-  j1 = p6;
+  j1 = p5;
   j2 = 3ull;
   j1 += j2;
-  p6 = j1;
+  p5 = j1;
   i64_store(j0, j1);
-  j0 = p6;
+  j0 = p5;
   j1 = p1;
   j2 = 2104ull;
   j1 += j2;
   i1 = (u32)(j1);
   j1 = i64_load(j1);
   i0 = j0 > j1;
-  if (i0) {goto B150;}
+  if (i0) {goto B151;}
   j0 = p1;
   j1 = 2088ull;
   j0 += j1;
   l9 = j0;
   i0 = (u32)(j0);
   j0 = i64_load(j0);
-  p5 = j0;
+  p6 = j0;
   j1 = p1;
   j2 = 2080ull;
   j1 += j2;
@@ -36500,27 +36503,27 @@ static void f30(module *self, u64 p0, u64 p1, u64 p2, u64 p3, u64 p4, u64 p5, u6
   j0 -= j1;
   j1 = 2ull;
   i0 = j0 > j1;
-  if (i0) {goto B151;}
+  if (i0) {goto B152;}
   j0 = p1;
   j1 = 2072ull;
   j0 += j1;
   j1 = 3ull;
   i0 = f15(self, j0, j1); m = self->memory; if (NEVER(self->is_broken)) return;
   i0 = !(i0);
-  if (i0) {goto B150;}
+  if (i0) {goto B151;}
   j0 = p1;
   j1 = 2088ull;
   j0 += j1;
   i0 = (u32)(j0);
   j0 = i64_load(j0);
-  p5 = j0;
+  p6 = j0;
   j0 = p1;
   j1 = 2080ull;
   j0 += j1;
   i0 = (u32)(j0);
   j0 = i64_load(j0);
   l8 = j0;
-  B151:;
+  B152:;
   j0 = p1;
   j1 = 2072ull;
   j0 += j1;
@@ -36530,7 +36533,7 @@ static void f30(module *self, u64 p0, u64 p1, u64 p2, u64 p3, u64 p4, u64 p5, u6
   p2 = j0;
   j1 = l8;
   j0 += j1;
-  p6 = j0;
+  p5 = j0;
   i0 = (u32)(j0);
   i1 = l58;
   i2 = 65280u;
@@ -36538,17 +36541,17 @@ static void f30(module *self, u64 p0, u64 p1, u64 p2, u64 p3, u64 p4, u64 p5, u6
   i2 = 8u;
   i1 >>= (i2 & 31);
   i32_store8(j0 + 2, i1);
-  j0 = p6;
+  j0 = p5;
   i0 = (u32)(j0);
   i1 = l58;
   i32_store8(j0 + 1, i1);
-  j0 = p6;
+  j0 = p5;
   i0 = (u32)(j0);
   i1 = 3u;
   i32_store8(j0, i1);
   j0 = l9;
   i0 = (u32)(j0);
-  j1 = p5;
+  j1 = p6;
   i64_store(j0, j1);
   j0 = l10;
   i0 = (u32)(j0);
@@ -36560,7 +36563,7 @@ static void f30(module *self, u64 p0, u64 p1, u64 p2, u64 p3, u64 p4, u64 p5, u6
   i0 = (u32)(j0);
   j1 = p2;
   i64_store(j0, j1);
-  B150:;
+  B151:;
   j0 = l7;
   j1 = 144ull;
   j0 += j1;
@@ -36581,8 +36584,8 @@ static void f30(module *self, u64 p0, u64 p1, u64 p2, u64 p3, u64 p4, u64 p5, u6
   j1 &= j2;
   j0 |= j1;
   l8 = j0;
-  goto B46;
-  B125:;
+  goto B48;
+  B126:;
   i0 = l27;
   i1 = 6u;
   i0 += i1;
@@ -36593,32 +36596,32 @@ static void f30(module *self, u64 p0, u64 p1, u64 p2, u64 p3, u64 p4, u64 p5, u6
   l8 = j0;
   i0 = (u32)(j0);
   j0 = i64_load(j0);
-  p6 = j0;
+  p5 = j0;
   j1 = 16777216ull;
   i0 = j0 > j1;
-  if (i0) {goto B152;}
+  if (i0) {goto B153;}
   j0 = l8;
   i0 = (u32)(j0);
-  j1 = p6;
+  j1 = p5;
   j2 = 3ull;
   j1 += j2;
-  p6 = j1;
+  p5 = j1;
   i64_store(j0, j1);
-  j0 = p6;
+  j0 = p5;
   j1 = p1;
   j2 = 2104ull;
   j1 += j2;
   i1 = (u32)(j1);
   j1 = i64_load(j1);
   i0 = j0 > j1;
-  if (i0) {goto B152;}
+  if (i0) {goto B153;}
   j0 = p1;
   j1 = 2088ull;
   j0 += j1;
   l9 = j0;
   i0 = (u32)(j0);
   j0 = i64_load(j0);
-  p5 = j0;
+  p6 = j0;
   j1 = p1;
   j2 = 2080ull;
   j1 += j2;
@@ -36629,27 +36632,27 @@ static void f30(module *self, u64 p0, u64 p1, u64 p2, u64 p3, u64 p4, u64 p5, u6
   j0 -= j1;
   j1 = 2ull;
   i0 = j0 > j1;
-  if (i0) {goto B153;}
+  if (i0) {goto B154;}
   j0 = p1;
   j1 = 2072ull;
   j0 += j1;
   j1 = 3ull;
   i0 = f15(self, j0, j1); m = self->memory; if (NEVER(self->is_broken)) return;
   i0 = !(i0);
-  if (i0) {goto B152;}
+  if (i0) {goto B153;}
   j0 = p1;
   j1 = 2088ull;
   j0 += j1;
   i0 = (u32)(j0);
   j0 = i64_load(j0);
-  p5 = j0;
+  p6 = j0;
   j0 = p1;
   j1 = 2080ull;
   j0 += j1;
   i0 = (u32)(j0);
   j0 = i64_load(j0);
   l8 = j0;
-  B153:;
+  B154:;
   j0 = p1;
   j1 = 2072ull;
   j0 += j1;
@@ -36659,7 +36662,7 @@ static void f30(module *self, u64 p0, u64 p1, u64 p2, u64 p3, u64 p4, u64 p5, u6
   p2 = j0;
   j1 = l8;
   j0 += j1;
-  p6 = j0;
+  p5 = j0;
   i0 = (u32)(j0);
   i1 = l58;
   i2 = 65280u;
@@ -36667,17 +36670,17 @@ static void f30(module *self, u64 p0, u64 p1, u64 p2, u64 p3, u64 p4, u64 p5, u6
   i2 = 8u;
   i1 >>= (i2 & 31);
   i32_store8(j0 + 2, i1);
-  j0 = p6;
+  j0 = p5;
   i0 = (u32)(j0);
   i1 = l58;
   i32_store8(j0 + 1, i1);
-  j0 = p6;
+  j0 = p5;
   i0 = (u32)(j0);
   i1 = 3u;
   i32_store8(j0, i1);
   j0 = l9;
   i0 = (u32)(j0);
-  j1 = p5;
+  j1 = p6;
   i64_store(j0, j1);
   j0 = l10;
   i0 = (u32)(j0);
@@ -36689,7 +36692,7 @@ static void f30(module *self, u64 p0, u64 p1, u64 p2, u64 p3, u64 p4, u64 p5, u6
   i0 = (u32)(j0);
   j1 = p2;
   i64_store(j0, j1);
-  B152:;
+  B153:;
   j0 = l7;
   j1 = 152ull;
   j0 += j1;
@@ -36710,18 +36713,18 @@ static void f30(module *self, u64 p0, u64 p1, u64 p2, u64 p3, u64 p4, u64 p5, u6
   j1 &= j2;
   j0 |= j1;
   l8 = j0;
-  goto B46;
-  B124:;
+  goto B48;
+  B125:;
   j0 = p1;
   j1 = 2096ull;
   j0 += j1;
   l8 = j0;
   i0 = (u32)(j0);
   j0 = i64_load(j0);
-  p6 = j0;
+  p5 = j0;
   j1 = 16777217ull;
   i0 = j0 < j1;
-  if (i0) {goto B154;}
+  if (i0) {goto B155;}
   j0 = p1;
   j1 = 1999ull;
   j0 += j1;
@@ -36735,30 +36738,30 @@ static void f30(module *self, u64 p0, u64 p1, u64 p2, u64 p3, u64 p4, u64 p5, u6
   i0 = (u32)(j0);
   i1 = l58;
   i32_store8(j0, i1);
-  goto B50;
-  B154:;
+  goto B52;
+  B155:;
   j0 = l8;
   i0 = (u32)(j0);
-  j1 = p6;
+  j1 = p5;
   j2 = 4ull;
   j1 += j2;
-  p6 = j1;
+  p5 = j1;
   i64_store(j0, j1);
-  j0 = p6;
+  j0 = p5;
   j1 = p1;
   j2 = 2104ull;
   j1 += j2;
   i1 = (u32)(j1);
   j1 = i64_load(j1);
   i0 = j0 > j1;
-  if (i0) {goto B155;}
+  if (i0) {goto B156;}
   j0 = p1;
   j1 = 2088ull;
   j0 += j1;
-  p5 = j0;
+  p6 = j0;
   i0 = (u32)(j0);
   j0 = i64_load(j0);
-  p6 = j0;
+  p5 = j0;
   j1 = p1;
   j2 = 2080ull;
   j1 += j2;
@@ -36769,27 +36772,27 @@ static void f30(module *self, u64 p0, u64 p1, u64 p2, u64 p3, u64 p4, u64 p5, u6
   j0 -= j1;
   j1 = 3ull;
   i0 = j0 > j1;
-  if (i0) {goto B157;}
+  if (i0) {goto B158;}
   j0 = p1;
   j1 = 2072ull;
   j0 += j1;
   j1 = 4ull;
   i0 = f15(self, j0, j1); m = self->memory; if (NEVER(self->is_broken)) return;
   i0 = !(i0);
-  if (i0) {goto B156;}
+  if (i0) {goto B157;}
   j0 = p1;
   j1 = 2088ull;
   j0 += j1;
   i0 = (u32)(j0);
   j0 = i64_load(j0);
-  p6 = j0;
+  p5 = j0;
   j0 = p1;
   j1 = 2080ull;
   j0 += j1;
   i0 = (u32)(j0);
   j0 = i64_load(j0);
   l8 = j0;
-  B157:;
+  B158:;
   j0 = p1;
   j1 = 2072ull;
   j0 += j1;
@@ -36806,9 +36809,9 @@ static void f30(module *self, u64 p0, u64 p1, u64 p2, u64 p3, u64 p4, u64 p5, u6
   i2 = 247809u;
   i1 |= i2;
   i32_store(j0, i1);
-  j0 = p5;
+  j0 = p6;
   i0 = (u32)(j0);
-  j1 = p6;
+  j1 = p5;
   i64_store(j0, j1);
   j0 = l9;
   i0 = (u32)(j0);
@@ -36820,14 +36823,14 @@ static void f30(module *self, u64 p0, u64 p1, u64 p2, u64 p3, u64 p4, u64 p5, u6
   i0 = (u32)(j0);
   j1 = l11;
   i64_store(j0, j1);
-  B156:;
+  B157:;
   j0 = p1;
   j1 = 2096ull;
   j0 += j1;
   i0 = (u32)(j0);
   j0 = i64_load(j0);
-  p6 = j0;
-  B155:;
+  p5 = j0;
+  B156:;
   j0 = p1;
   j1 = 1999ull;
   j0 += j1;
@@ -36841,65 +36844,65 @@ static void f30(module *self, u64 p0, u64 p1, u64 p2, u64 p3, u64 p4, u64 p5, u6
   i0 = (u32)(j0);
   i1 = l58;
   i32_store8(j0, i1);
-  j0 = p6;
+  j0 = p5;
   j1 = 16777216ull;
   i0 = j0 > j1;
-  if (i0) {goto B50;}
+  if (i0) {goto B52;}
   j0 = p1;
   j1 = 2096ull;
   j0 += j1;
   i0 = (u32)(j0);
-  j1 = p6;
+  j1 = p5;
   j2 = 4ull;
   j1 += j2;
-  p6 = j1;
+  p5 = j1;
   i64_store(j0, j1);
-  j0 = p6;
+  j0 = p5;
   j1 = p1;
   j2 = 2104ull;
   j1 += j2;
   i1 = (u32)(j1);
   j1 = i64_load(j1);
   i0 = j0 > j1;
-  if (i0) {goto B158;}
+  if (i0) {goto B159;}
   j0 = p1;
   j1 = 2088ull;
   j0 += j1;
   l9 = j0;
   i0 = (u32)(j0);
   j0 = i64_load(j0);
-  p5 = j0;
+  p6 = j0;
   j1 = p1;
   j2 = 2080ull;
   j1 += j2;
   l10 = j1;
   i1 = (u32)(j1);
   j1 = i64_load(j1);
-  p6 = j1;
+  p5 = j1;
   j0 -= j1;
   j1 = 3ull;
   i0 = j0 > j1;
-  if (i0) {goto B159;}
+  if (i0) {goto B160;}
   j0 = p1;
   j1 = 2072ull;
   j0 += j1;
   j1 = 4ull;
   i0 = f15(self, j0, j1); m = self->memory; if (NEVER(self->is_broken)) return;
   i0 = !(i0);
-  if (i0) {goto B158;}
+  if (i0) {goto B159;}
   j0 = p1;
   j1 = 2088ull;
   j0 += j1;
   i0 = (u32)(j0);
   j0 = i64_load(j0);
-  p5 = j0;
+  p6 = j0;
   j0 = p1;
   j1 = 2080ull;
   j0 += j1;
   i0 = (u32)(j0);
   j0 = i64_load(j0);
-  p6 = j0;
-  B159:;
+  p5 = j0;
+  B160:;
   j0 = p1;
   j1 = 2072ull;
   j0 += j1;
@@ -36907,7 +36910,7 @@ static void f30(module *self, u64 p0, u64 p1, u64 p2, u64 p3, u64 p4, u64 p5, u6
   i0 = (u32)(j0);
   j0 = i64_load(j0);
   p2 = j0;
-  j1 = p6;
+  j1 = p5;
   j0 += j1;
   i0 = (u32)(j0);
   i1 = l24;
@@ -36918,11 +36921,11 @@ static void f30(module *self, u64 p0, u64 p1, u64 p2, u64 p3, u64 p4, u64 p5, u6
   i32_store(j0, i1);
   j0 = l9;
   i0 = (u32)(j0);
-  j1 = p5;
+  j1 = p6;
   i64_store(j0, j1);
   j0 = l10;
   i0 = (u32)(j0);
-  j1 = p6;
+  j1 = p5;
   j2 = 4ull;
   j1 += j2;
   i64_store(j0, j1);
@@ -36930,7 +36933,7 @@ static void f30(module *self, u64 p0, u64 p1, u64 p2, u64 p3, u64 p4, u64 p5, u6
   i0 = (u32)(j0);
   j1 = p2;
   i64_store(j0, j1);
-  B158:;
+  B159:;
   i0 = l28;
   i1 = 63u;
   i0 &= i1;
@@ -36940,18 +36943,18 @@ static void f30(module *self, u64 p0, u64 p1, u64 p2, u64 p3, u64 p4, u64 p5, u6
   j0 = i64_load8_u(j0);
   i0 = (u32)(j0);
   switch (i0) {
-    case 0: goto B49;
-    case 1: goto B160;
-    case 2: goto B161;
-    default: goto B49;
+    case 0: goto B51;
+    case 1: goto B161;
+    case 2: goto B162;
+    default: goto B51;
   }
-  B161:;
+  B162:;
   j0 = p1;
   j1 = 1998ull;
   j0 += j1;
-  p6 = j0;
+  p5 = j0;
   i0 = (u32)(j0);
-  j1 = p6;
+  j1 = p5;
   i1 = (u32)(j1);
   i1 = i32_load8_u(j1);
   l58 = i1;
@@ -36963,9 +36966,9 @@ static void f30(module *self, u64 p0, u64 p1, u64 p2, u64 p3, u64 p4, u64 p5, u6
   j1 = (u64)(i1);
   j2 = 255ull;
   j1 &= j2;
-  p5 = j1;
+  p6 = j1;
   j0 += j1;
-  p6 = j0;
+  p5 = j0;
   j1 = 206ull;
   j0 += j1;
   i0 = (u32)(j0);
@@ -36976,7 +36979,7 @@ static void f30(module *self, u64 p0, u64 p1, u64 p2, u64 p3, u64 p4, u64 p5, u6
   i1 = i32_load8_u(j1);
   l59 = i1;
   i32_store8(j0, i1);
-  j0 = p6;
+  j0 = p5;
   j1 = 462ull;
   j0 += j1;
   i0 = (u32)(j0);
@@ -36987,7 +36990,7 @@ static void f30(module *self, u64 p0, u64 p1, u64 p2, u64 p3, u64 p4, u64 p5, u6
   i1 = i32_load8_u(j1);
   l18 = i1;
   i32_store8(j0, i1);
-  j0 = p6;
+  j0 = p5;
   j1 = 718ull;
   j0 += j1;
   i0 = (u32)(j0);
@@ -36996,36 +36999,36 @@ static void f30(module *self, u64 p0, u64 p1, u64 p2, u64 p3, u64 p4, u64 p5, u6
   i0 = 0u;
   l58 = i0;
   j0 = p1;
-  j1 = p5;
+  j1 = p6;
   j2 = 2ull;
   j1 <<= (j2 & 63);
   j0 += j1;
-  p6 = j0;
+  p5 = j0;
   j1 = 977ull;
   j0 += j1;
   i0 = (u32)(j0);
   i1 = 0u;
   i32_store8(j0, i1);
-  j0 = p6;
+  j0 = p5;
   j1 = 976ull;
   j0 += j1;
   i0 = (u32)(j0);
   i1 = l27;
   i32_store8(j0, i1);
-  j0 = p6;
+  j0 = p5;
   j1 = 975ull;
   j0 += j1;
   i0 = (u32)(j0);
   i1 = l18;
   i32_store8(j0, i1);
-  j0 = p6;
+  j0 = p5;
   j1 = 974ull;
   j0 += j1;
   i0 = (u32)(j0);
   i1 = l59;
   i32_store8(j0, i1);
-  goto B48;
-  B160:;
+  goto B50;
+  B161:;
   j0 = p1;
   j1 = 2001ull;
   j0 += j1;
@@ -37034,8 +37037,8 @@ static void f30(module *self, u64 p0, u64 p1, u64 p2, u64 p3, u64 p4, u64 p5, u6
   i32_store8(j0, i1);
   i0 = 2u;
   l58 = i0;
-  goto B48;
-  B123:;
+  goto B50;
+  B124:;
   j0 = p1;
   j1 = 2096ull;
   j0 += j1;
@@ -37045,7 +37048,7 @@ static void f30(module *self, u64 p0, u64 p1, u64 p2, u64 p3, u64 p4, u64 p5, u6
   l9 = j0;
   j1 = 16777216ull;
   i0 = j0 > j1;
-  if (i0) {goto B162;}
+  if (i0) {goto B163;}
   j0 = l8;
   i0 = (u32)(j0);
   j1 = l9;
@@ -37060,7 +37063,7 @@ static void f30(module *self, u64 p0, u64 p1, u64 p2, u64 p3, u64 p4, u64 p5, u6
   i1 = (u32)(j1);
   j1 = i64_load(j1);
   i0 = j0 > j1;
-  if (i0) {goto B162;}
+  if (i0) {goto B163;}
   j0 = p1;
   j1 = 2088ull;
   j0 += j1;
@@ -37078,14 +37081,14 @@ static void f30(module *self, u64 p0, u64 p1, u64 p2, u64 p3, u64 p4, u64 p5, u6
   j0 -= j1;
   j1 = 3ull;
   i0 = j0 > j1;
-  if (i0) {goto B163;}
+  if (i0) {goto B164;}
   j0 = p1;
   j1 = 2072ull;
   j0 += j1;
   j1 = 4ull;
   i0 = f15(self, j0, j1); m = self->memory; if (NEVER(self->is_broken)) return;
   i0 = !(i0);
-  if (i0) {goto B162;}
+  if (i0) {goto B163;}
   j0 = p1;
   j1 = 2088ull;
   j0 += j1;
@@ -37098,7 +37101,7 @@ static void f30(module *self, u64 p0, u64 p1, u64 p2, u64 p3, u64 p4, u64 p5, u6
   i0 = (u32)(j0);
   j0 = i64_load(j0);
   l8 = j0;
-  B163:;
+  B164:;
   j0 = p1;
   j1 = 2072ull;
   j0 += j1;
@@ -37129,7 +37132,7 @@ static void f30(module *self, u64 p0, u64 p1, u64 p2, u64 p3, u64 p4, u64 p5, u6
   i0 = (u32)(j0);
   j1 = l15;
   i64_store(j0, j1);
-  B162:;
+  B163:;
   j0 = p1;
   j1 = 1999ull;
   j0 += j1;
@@ -37144,7 +37147,7 @@ static void f30(module *self, u64 p0, u64 p1, u64 p2, u64 p3, u64 p4, u64 p5, u6
   i32_store8(j0, i1);
   j0 = p6;
   i0 = !(j0);
-  if (i0) {goto B47;}
+  if (i0) {goto B49;}
   j0 = p1;
   j1 = 974ull;
   j0 += j1;
@@ -37169,16 +37172,16 @@ static void f30(module *self, u64 p0, u64 p1, u64 p2, u64 p3, u64 p4, u64 p5, u6
   l9 = j0;
   j1 = 16777216ull;
   i0 = j0 > j1;
-  if (i0) {goto B165;}
+  if (i0) {goto B166;}
   j0 = p6;
   j1 = 18446744073709551615ull;
   j0 += j1;
   l8 = j0;
-  goto B164;
-  B165:;
+  goto B165;
+  B166:;
   i0 = 0u;
   l27 = i0;
-  L166: 
+  L167: 
     j0 = p5;
     i0 = (u32)(j0);
     i0 = i32_load8_u(j0);
@@ -37191,12 +37194,12 @@ static void f30(module *self, u64 p0, u64 p1, u64 p2, u64 p3, u64 p4, u64 p5, u6
     j0 &= j1;
     i0 = (u32)(j0);
     switch (i0) {
-      case 0: goto B168;
-      case 1: goto B169;
-      case 2: goto B170;
-      default: goto B168;
+      case 0: goto B169;
+      case 1: goto B170;
+      case 2: goto B171;
+      default: goto B169;
     }
-    B170:;
+    B171:;
     j0 = p1;
     j1 = 1998ull;
     j0 += j1;
@@ -37263,8 +37266,8 @@ static void f30(module *self, u64 p0, u64 p1, u64 p2, u64 p3, u64 p4, u64 p5, u6
     i32_store8(j0, i1);
     i0 = l18;
     l58 = i0;
-    goto B167;
-    B169:;
+    goto B168;
+    B170:;
     j0 = p1;
     j1 = 2001ull;
     j0 += j1;
@@ -37273,8 +37276,8 @@ static void f30(module *self, u64 p0, u64 p1, u64 p2, u64 p3, u64 p4, u64 p5, u6
     i32_store8(j0, i1);
     i0 = 2u;
     l27 = i0;
-    goto B167;
-    B168:;
+    goto B168;
+    B169:;
     j0 = p1;
     j1 = 2000ull;
     j0 += j1;
@@ -37283,7 +37286,7 @@ static void f30(module *self, u64 p0, u64 p1, u64 p2, u64 p3, u64 p4, u64 p5, u6
     i32_store8(j0, i1);
     i0 = 1u;
     l27 = i0;
-    B167:;
+    B168:;
     j0 = p1;
     j1 = 1999ull;
     j0 += j1;
@@ -37300,11 +37303,11 @@ static void f30(module *self, u64 p0, u64 p1, u64 p2, u64 p3, u64 p4, u64 p5, u6
     p6 = j0;
     i0 = !(j0);
     i0 = !(i0);
-    if (i0) {goto L166;}
-    goto B47;
+    if (i0) {goto L167;}
+    goto B49;
   { self->is_broken = true; return; }
-  B164:;
-  L171: 
+  B165:;
+  L172: 
     j0 = p5;
     i0 = (u32)(j0);
     i0 = i32_load8_u(j0);
@@ -37312,7 +37315,7 @@ static void f30(module *self, u64 p0, u64 p1, u64 p2, u64 p3, u64 p4, u64 p5, u6
     j0 = l9;
     j1 = 16777216ull;
     i0 = j0 > j1;
-    if (i0) {goto B172;}
+    if (i0) {goto B173;}
     j0 = p1;
     j1 = 2096ull;
     j0 += j1;
@@ -37329,7 +37332,7 @@ static void f30(module *self, u64 p0, u64 p1, u64 p2, u64 p3, u64 p4, u64 p5, u6
     i1 = (u32)(j1);
     j1 = i64_load(j1);
     i0 = j0 > j1;
-    if (i0) {goto B172;}
+    if (i0) {goto B173;}
     j0 = p1;
     j1 = 2088ull;
     j0 += j1;
@@ -37347,14 +37350,14 @@ static void f30(module *self, u64 p0, u64 p1, u64 p2, u64 p3, u64 p4, u64 p5, u6
     j0 -= j1;
     j1 = 3ull;
     i0 = j0 > j1;
-    if (i0) {goto B173;}
+    if (i0) {goto B174;}
     j0 = p1;
     j1 = 2072ull;
     j0 += j1;
     j1 = 4ull;
     i0 = f15(self, j0, j1); m = self->memory; if (NEVER(self->is_broken)) return;
     i0 = !(i0);
-    if (i0) {goto B172;}
+    if (i0) {goto B173;}
     j0 = p1;
     j1 = 2088ull;
     j0 += j1;
@@ -37367,7 +37370,7 @@ static void f30(module *self, u64 p0, u64 p1, u64 p2, u64 p3, u64 p4, u64 p5, u6
     i0 = (u32)(j0);
     j0 = i64_load(j0);
     p6 = j0;
-    B173:;
+    B174:;
     j0 = p1;
     j1 = 2072ull;
     j0 += j1;
@@ -37398,7 +37401,7 @@ static void f30(module *self, u64 p0, u64 p1, u64 p2, u64 p3, u64 p4, u64 p5, u6
     i0 = (u32)(j0);
     j1 = l13;
     i64_store(j0, j1);
-    B172:;
+    B173:;
     i0 = l58;
     i1 = 63u;
     i0 &= i1;
@@ -37410,12 +37413,12 @@ static void f30(module *self, u64 p0, u64 p1, u64 p2, u64 p3, u64 p4, u64 p5, u6
     j0 = i64_load8_u(j0);
     i0 = (u32)(j0);
     switch (i0) {
-      case 0: goto B177;
-      case 1: goto B175;
-      case 2: goto B176;
-      default: goto B177;
+      case 0: goto B178;
+      case 1: goto B176;
+      case 2: goto B177;
+      default: goto B178;
     }
-    B177:;
+    B178:;
     j0 = p1;
     j1 = 2000ull;
     j0 += j1;
@@ -37424,8 +37427,8 @@ static void f30(module *self, u64 p0, u64 p1, u64 p2, u64 p3, u64 p4, u64 p5, u6
     i32_store8(j0, i1);
     i0 = 1u;
     l27 = i0;
-    goto B174;
-    B176:;
+    goto B175;
+    B177:;
     j0 = p1;
     j1 = 1998ull;
     j0 += j1;
@@ -37493,8 +37496,8 @@ static void f30(module *self, u64 p0, u64 p1, u64 p2, u64 p3, u64 p4, u64 p5, u6
     i0 = (u32)(j0);
     i1 = l59;
     i32_store8(j0, i1);
-    goto B174;
-    B175:;
+    goto B175;
+    B176:;
     j0 = p1;
     j1 = 2001ull;
     j0 += j1;
@@ -37503,7 +37506,7 @@ static void f30(module *self, u64 p0, u64 p1, u64 p2, u64 p3, u64 p4, u64 p5, u6
     i32_store8(j0, i1);
     i0 = 2u;
     l27 = i0;
-    B174:;
+    B175:;
     j0 = p1;
     j1 = 1999ull;
     j0 += j1;
@@ -37512,7 +37515,7 @@ static void f30(module *self, u64 p0, u64 p1, u64 p2, u64 p3, u64 p4, u64 p5, u6
     i32_store8(j0, i1);
     j0 = l8;
     i0 = !(j0);
-    if (i0) {goto B47;}
+    if (i0) {goto B49;}
     j0 = p5;
     j1 = 1ull;
     j0 += j1;
@@ -37527,19 +37530,19 @@ static void f30(module *self, u64 p0, u64 p1, u64 p2, u64 p3, u64 p4, u64 p5, u6
     i0 = (u32)(j0);
     j0 = i64_load(j0);
     l9 = j0;
-    goto L171;
+    goto L172;
   { self->is_broken = true; return; }
-  B122:;
+  B123:;
   j0 = p1;
   j1 = 2096ull;
   j0 += j1;
   l8 = j0;
   i0 = (u32)(j0);
   j0 = i64_load(j0);
-  p6 = j0;
+  p5 = j0;
   j1 = 16777217ull;
   i0 = j0 < j1;
-  if (i0) {goto B178;}
+  if (i0) {goto B179;}
   j0 = p1;
   j1 = 1999ull;
   j0 += j1;
@@ -37550,34 +37553,34 @@ static void f30(module *self, u64 p0, u64 p1, u64 p2, u64 p3, u64 p4, u64 p5, u6
   j0 = p1;
   j1 = 1998ull;
   j0 += j1;
-  p6 = j0;
+  p5 = j0;
   i0 = (u32)(j0);
   i1 = l58;
   i32_store8(j0, i1);
-  goto B53;
-  B178:;
+  goto B55;
+  B179:;
   j0 = l8;
   i0 = (u32)(j0);
-  j1 = p6;
+  j1 = p5;
   j2 = 4ull;
   j1 += j2;
-  p5 = j1;
+  p6 = j1;
   i64_store(j0, j1);
-  j0 = p5;
+  j0 = p6;
   j1 = p1;
   j2 = 2104ull;
   j1 += j2;
   i1 = (u32)(j1);
   j1 = i64_load(j1);
   i0 = j0 > j1;
-  if (i0) {goto B179;}
+  if (i0) {goto B180;}
   j0 = p1;
   j1 = 2088ull;
   j0 += j1;
-  p5 = j0;
+  p6 = j0;
   i0 = (u32)(j0);
   j0 = i64_load(j0);
-  p6 = j0;
+  p5 = j0;
   j1 = p1;
   j2 = 2080ull;
   j1 += j2;
@@ -37588,27 +37591,27 @@ static void f30(module *self, u64 p0, u64 p1, u64 p2, u64 p3, u64 p4, u64 p5, u6
   j0 -= j1;
   j1 = 3ull;
   i0 = j0 > j1;
-  if (i0) {goto B181;}
+  if (i0) {goto B182;}
   j0 = p1;
   j1 = 2072ull;
   j0 += j1;
   j1 = 4ull;
   i0 = f15(self, j0, j1); m = self->memory; if (NEVER(self->is_broken)) return;
   i0 = !(i0);
-  if (i0) {goto B180;}
+  if (i0) {goto B181;}
   j0 = p1;
   j1 = 2088ull;
   j0 += j1;
   i0 = (u32)(j0);
   j0 = i64_load(j0);
-  p6 = j0;
+  p5 = j0;
   j0 = p1;
   j1 = 2080ull;
   j0 += j1;
   i0 = (u32)(j0);
   j0 = i64_load(j0);
   l8 = j0;
-  B181:;
+  B182:;
   j0 = p1;
   j1 = 2072ull;
   j0 += j1;
@@ -37625,9 +37628,9 @@ static void f30(module *self, u64 p0, u64 p1, u64 p2, u64 p3, u64 p4, u64 p5, u6
   i2 = 247553u;
   i1 |= i2;
   i32_store(j0, i1);
-  j0 = p5;
+  j0 = p6;
   i0 = (u32)(j0);
-  j1 = p6;
+  j1 = p5;
   i64_store(j0, j1);
   j0 = l9;
   i0 = (u32)(j0);
@@ -37639,14 +37642,14 @@ static void f30(module *self, u64 p0, u64 p1, u64 p2, u64 p3, u64 p4, u64 p5, u6
   i0 = (u32)(j0);
   j1 = l11;
   i64_store(j0, j1);
-  B180:;
+  B181:;
   j0 = p1;
   j1 = 2096ull;
   j0 += j1;
   i0 = (u32)(j0);
   j0 = i64_load(j0);
-  p5 = j0;
-  B179:;
+  p6 = j0;
+  B180:;
   j0 = p1;
   j1 = 1999ull;
   j0 += j1;
@@ -37657,31 +37660,31 @@ static void f30(module *self, u64 p0, u64 p1, u64 p2, u64 p3, u64 p4, u64 p5, u6
   j0 = p1;
   j1 = 1998ull;
   j0 += j1;
-  p6 = j0;
+  p5 = j0;
   i0 = (u32)(j0);
   i1 = l58;
   i32_store8(j0, i1);
-  j0 = p5;
+  j0 = p6;
   j1 = 16777216ull;
   i0 = j0 > j1;
-  if (i0) {goto B53;}
+  if (i0) {goto B55;}
   j0 = p1;
   j1 = 2096ull;
   j0 += j1;
   i0 = (u32)(j0);
-  j1 = p5;
+  j1 = p6;
   j2 = 3ull;
   j1 += j2;
-  p5 = j1;
+  p6 = j1;
   i64_store(j0, j1);
-  j0 = p5;
+  j0 = p6;
   j1 = p1;
   j2 = 2104ull;
   j1 += j2;
   i1 = (u32)(j1);
   j1 = i64_load(j1);
   i0 = j0 > j1;
-  if (i0) {goto B182;}
+  if (i0) {goto B183;}
   j0 = p1;
   j1 = 2088ull;
   j0 += j1;
@@ -37695,18 +37698,18 @@ static void f30(module *self, u64 p0, u64 p1, u64 p2, u64 p3, u64 p4, u64 p5, u6
   l11 = j1;
   i1 = (u32)(j1);
   j1 = i64_load(j1);
-  p5 = j1;
+  p6 = j1;
   j0 -= j1;
   j1 = 2ull;
   i0 = j0 > j1;
-  if (i0) {goto B183;}
+  if (i0) {goto B184;}
   j0 = p1;
   j1 = 2072ull;
   j0 += j1;
   j1 = 3ull;
   i0 = f15(self, j0, j1); m = self->memory; if (NEVER(self->is_broken)) return;
   i0 = !(i0);
-  if (i0) {goto B182;}
+  if (i0) {goto B183;}
   j0 = p1;
   j1 = 2088ull;
   j0 += j1;
@@ -37718,8 +37721,8 @@ static void f30(module *self, u64 p0, u64 p1, u64 p2, u64 p3, u64 p4, u64 p5, u6
   j0 += j1;
   i0 = (u32)(j0);
   j0 = i64_load(j0);
-  p5 = j0;
-  B183:;
+  p6 = j0;
+  B184:;
   j0 = p1;
   j1 = 2072ull;
   j0 += j1;
@@ -37727,7 +37730,7 @@ static void f30(module *self, u64 p0, u64 p1, u64 p2, u64 p3, u64 p4, u64 p5, u6
   i0 = (u32)(j0);
   j0 = i64_load(j0);
   l15 = j0;
-  j1 = p5;
+  j1 = p6;
   j0 += j1;
   p4 = j0;
   i0 = (u32)(j0);
@@ -37743,7 +37746,7 @@ static void f30(module *self, u64 p0, u64 p1, u64 p2, u64 p3, u64 p4, u64 p5, u6
   i64_store(j0, j1);
   j0 = l11;
   i0 = (u32)(j0);
-  j1 = p5;
+  j1 = p6;
   j2 = 3ull;
   j1 += j2;
   i64_store(j0, j1);
@@ -37751,26 +37754,26 @@ static void f30(module *self, u64 p0, u64 p1, u64 p2, u64 p3, u64 p4, u64 p5, u6
   i0 = (u32)(j0);
   j1 = l15;
   i64_store(j0, j1);
-  B182:;
-  j0 = p6;
+  B183:;
+  j0 = p5;
   i0 = (u32)(j0);
   i0 = i32_load8_u(j0);
   l58 = i0;
   j0 = (u64)(i0);
   j1 = 255ull;
   j0 &= j1;
-  p5 = j0;
+  p6 = j0;
   j0 = l8;
   i0 = (u32)(j0);
   j0 = i64_load8_u(j0);
   i0 = (u32)(j0);
   switch (i0) {
-    case 0: goto B52;
-    case 1: goto B184;
-    case 2: goto B185;
-    default: goto B52;
+    case 0: goto B54;
+    case 1: goto B185;
+    case 2: goto B186;
+    default: goto B54;
   }
-  B185:;
+  B186:;
   j0 = p1;
   j1 = 1998ull;
   j0 += j1;
@@ -37781,7 +37784,7 @@ static void f30(module *self, u64 p0, u64 p1, u64 p2, u64 p3, u64 p4, u64 p5, u6
   l58 = i1;
   i32_store8(j0, i1);
   j0 = p1;
-  j1 = p5;
+  j1 = p6;
   j0 += j1;
   j1 = 718ull;
   j0 += j1;
@@ -37790,10 +37793,10 @@ static void f30(module *self, u64 p0, u64 p1, u64 p2, u64 p3, u64 p4, u64 p5, u6
   l59 = i0;
   i0 = 0u;
   l27 = i0;
-  goto B51;
-  B184:;
+  goto B53;
+  B185:;
   j0 = p1;
-  j1 = p5;
+  j1 = p6;
   j0 += j1;
   j1 = 462ull;
   j0 += j1;
@@ -37802,40 +37805,40 @@ static void f30(module *self, u64 p0, u64 p1, u64 p2, u64 p3, u64 p4, u64 p5, u6
   l59 = i0;
   i0 = 2u;
   l27 = i0;
-  goto B51;
-  B121:;
+  goto B53;
+  B122:;
   j0 = p1;
   j1 = 2096ull;
   j0 += j1;
   l8 = j0;
   i0 = (u32)(j0);
   j0 = i64_load(j0);
-  p6 = j0;
+  p5 = j0;
   j1 = 16777216ull;
   i0 = j0 > j1;
-  if (i0) {goto B186;}
+  if (i0) {goto B187;}
   j0 = l8;
   i0 = (u32)(j0);
-  j1 = p6;
+  j1 = p5;
   j2 = 4ull;
   j1 += j2;
-  p6 = j1;
+  p5 = j1;
   i64_store(j0, j1);
-  j0 = p6;
+  j0 = p5;
   j1 = p1;
   j2 = 2104ull;
   j1 += j2;
   i1 = (u32)(j1);
   j1 = i64_load(j1);
   i0 = j0 > j1;
-  if (i0) {goto B186;}
+  if (i0) {goto B187;}
   j0 = p1;
   j1 = 2088ull;
   j0 += j1;
-  p5 = j0;
+  p6 = j0;
   i0 = (u32)(j0);
   j0 = i64_load(j0);
-  p6 = j0;
+  p5 = j0;
   j1 = p1;
   j2 = 2080ull;
   j1 += j2;
@@ -37846,27 +37849,27 @@ static void f30(module *self, u64 p0, u64 p1, u64 p2, u64 p3, u64 p4, u64 p5, u6
   j0 -= j1;
   j1 = 3ull;
   i0 = j0 > j1;
-  if (i0) {goto B187;}
+  if (i0) {goto B188;}
   j0 = p1;
   j1 = 2072ull;
   j0 += j1;
   j1 = 4ull;
   i0 = f15(self, j0, j1); m = self->memory; if (NEVER(self->is_broken)) return;
   i0 = !(i0);
-  if (i0) {goto B186;}
+  if (i0) {goto B187;}
   j0 = p1;
   j1 = 2088ull;
   j0 += j1;
   i0 = (u32)(j0);
   j0 = i64_load(j0);
-  p6 = j0;
+  p5 = j0;
   j0 = p1;
   j1 = 2080ull;
   j0 += j1;
   i0 = (u32)(j0);
   j0 = i64_load(j0);
   l8 = j0;
-  B187:;
+  B188:;
   j0 = p1;
   j1 = 2072ull;
   j0 += j1;
@@ -37883,9 +37886,9 @@ static void f30(module *self, u64 p0, u64 p1, u64 p2, u64 p3, u64 p4, u64 p5, u6
   i2 = 247297u;
   i1 |= i2;
   i32_store(j0, i1);
-  j0 = p5;
+  j0 = p6;
   i0 = (u32)(j0);
-  j1 = p6;
+  j1 = p5;
   i64_store(j0, j1);
   j0 = l9;
   i0 = (u32)(j0);
@@ -37897,47 +37900,47 @@ static void f30(module *self, u64 p0, u64 p1, u64 p2, u64 p3, u64 p4, u64 p5, u6
   i0 = (u32)(j0);
   j1 = l11;
   i64_store(j0, j1);
-  B186:;
+  B187:;
   j0 = p1;
   j1 = 2002ull;
   j0 += j1;
   i0 = (u32)(j0);
   i1 = l59;
   i32_store8(j0, i1);
-  goto B47;
-  B120:;
+  goto B49;
+  B121:;
   j0 = p1;
   j1 = 2096ull;
   j0 += j1;
   l8 = j0;
   i0 = (u32)(j0);
   j0 = i64_load(j0);
-  p6 = j0;
+  p5 = j0;
   j1 = 16777216ull;
   i0 = j0 > j1;
-  if (i0) {goto B188;}
+  if (i0) {goto B189;}
   j0 = l8;
   i0 = (u32)(j0);
-  j1 = p6;
+  j1 = p5;
   j2 = 3ull;
   j1 += j2;
-  p6 = j1;
+  p5 = j1;
   i64_store(j0, j1);
-  j0 = p6;
+  j0 = p5;
   j1 = p1;
   j2 = 2104ull;
   j1 += j2;
   i1 = (u32)(j1);
   j1 = i64_load(j1);
   i0 = j0 > j1;
-  if (i0) {goto B188;}
+  if (i0) {goto B189;}
   j0 = p1;
   j1 = 2088ull;
   j0 += j1;
-  p5 = j0;
+  p6 = j0;
   i0 = (u32)(j0);
   j0 = i64_load(j0);
-  p6 = j0;
+  p5 = j0;
   j1 = p1;
   j2 = 2080ull;
   j1 += j2;
@@ -37948,27 +37951,27 @@ static void f30(module *self, u64 p0, u64 p1, u64 p2, u64 p3, u64 p4, u64 p5, u6
   j0 -= j1;
   j1 = 2ull;
   i0 = j0 > j1;
-  if (i0) {goto B189;}
+  if (i0) {goto B190;}
   j0 = p1;
   j1 = 2072ull;
   j0 += j1;
   j1 = 3ull;
   i0 = f15(self, j0, j1); m = self->memory; if (NEVER(self->is_broken)) return;
   i0 = !(i0);
-  if (i0) {goto B188;}
+  if (i0) {goto B189;}
   j0 = p1;
   j1 = 2088ull;
   j0 += j1;
   i0 = (u32)(j0);
   j0 = i64_load(j0);
-  p6 = j0;
+  p5 = j0;
   j0 = p1;
   j1 = 2080ull;
   j0 += j1;
   i0 = (u32)(j0);
   j0 = i64_load(j0);
   l8 = j0;
-  B189:;
+  B190:;
   j0 = p1;
   j1 = 2072ull;
   j0 += j1;
@@ -37986,9 +37989,9 @@ static void f30(module *self, u64 p0, u64 p1, u64 p2, u64 p3, u64 p4, u64 p5, u6
   i0 = (u32)(j0);
   i1 = 50691u;
   i32_store16(j0, i1);
-  j0 = p5;
+  j0 = p6;
   i0 = (u32)(j0);
-  j1 = p6;
+  j1 = p5;
   i64_store(j0, j1);
   j0 = l9;
   i0 = (u32)(j0);
@@ -38000,7 +38003,7 @@ static void f30(module *self, u64 p0, u64 p1, u64 p2, u64 p3, u64 p4, u64 p5, u6
   i0 = (u32)(j0);
   j1 = l11;
   i64_store(j0, j1);
-  B188:;
+  B189:;
   j0 = l12;
   j1 = 65280ull;
   j0 &= j1;
@@ -38011,8 +38014,8 @@ static void f30(module *self, u64 p0, u64 p1, u64 p2, u64 p3, u64 p4, u64 p5, u6
   j1 = i64_load8_u(j1);
   j0 |= j1;
   l8 = j0;
-  goto B46;
-  B56:;
+  goto B48;
+  B57:;
   j0 = 259ull;
   j1 = 3ull;
   i2 = l27;
@@ -38022,44 +38025,44 @@ static void f30(module *self, u64 p0, u64 p1, u64 p2, u64 p3, u64 p4, u64 p5, u6
   l8 = j0;
   i0 = 9u;
   l22 = i0;
-  goto B46;
-  B55:;
+  goto B48;
+  B56:;
   j0 = l7;
   i0 = (u32)(j0);
   i1 = l69;
-  i32_store8(j0 + 302, i1);
+  i32_store8(j0 + 294, i1);
   j0 = l7;
   i0 = (u32)(j0);
   i1 = l29;
-  i32_store16(j0 + 300, i1);
+  i32_store16(j0 + 292, i1);
   j0 = l7;
   i0 = (u32)(j0);
-  j0 = i64_load16_u(j0 + 301u);
+  j0 = i64_load16_u(j0 + 293u);
   l8 = j0;
   j0 = l7;
   i0 = (u32)(j0);
   j1 = 0ull;
-  i64_store(j0 + 200, j1);
+  i64_store(j0 + 328, j1);
   j0 = l7;
   i0 = (u32)(j0);
   j1 = p2;
-  i64_store(j0 + 192, j1);
+  i64_store(j0 + 320, j1);
   j0 = l7;
   i0 = (u32)(j0);
   j1 = p3;
-  i64_store(j0 + 184, j1);
+  i64_store(j0 + 312, j1);
   j0 = l7;
   i0 = (u32)(j0);
   i1 = l73;
-  i32_store8(j0 + 200, i1);
+  i32_store8(j0 + 328, i1);
   j0 = l8;
   i0 = !(j0);
-  if (i0) {goto B190;}
+  if (i0) {goto B191;}
   i0 = l19;
   i1 = 1u;
   i0 &= i1;
   i0 = !(i0);
-  if (i0) {goto B191;}
+  if (i0) {goto B192;}
   i0 = l19;
   j0 = (u64)(i0);
   j1 = 1ull;
@@ -38071,10 +38074,10 @@ static void f30(module *self, u64 p0, u64 p1, u64 p2, u64 p3, u64 p4, u64 p5, u6
   p6 = j0;
   j0 = 0ull;
   l9 = j0;
-  L192: 
+  L193: 
     j0 = p1;
     j1 = l7;
-    j2 = 184ull;
+    j2 = 312ull;
     j1 += j2;
     i2 = l58;
     j3 = p5;
@@ -38102,14 +38105,14 @@ static void f30(module *self, u64 p0, u64 p1, u64 p2, u64 p3, u64 p4, u64 p5, u6
     j0 = l8;
     j1 = l10;
     i0 = j0 != j1;
-    if (i0) {goto L192;}
-    goto B190;
+    if (i0) {goto L193;}
+    goto B191;
   { self->is_broken = true; return; }
-  B191:;
-  L193: 
+  B192:;
+  L194: 
     j0 = p1;
     j1 = l7;
-    j2 = 184ull;
+    j2 = 312ull;
     j1 += j2;
     i2 = l58;
     j3 = p5;
@@ -38129,13 +38132,13 @@ static void f30(module *self, u64 p0, u64 p1, u64 p2, u64 p3, u64 p4, u64 p5, u6
     l8 = j0;
     j1 = 0ull;
     i0 = j0 != j1;
-    if (i0) {goto L193;}
-  B190:;
+    if (i0) {goto L194;}
+  B191:;
   i0 = l68;
   i1 = 1u;
   i0 &= i1;
   i0 = !(i0);
-  if (i0) {goto B47;}
+  if (i0) {goto B49;}
   j0 = p2;
   i1 = l73;
   i2 = 1u;
@@ -38153,22 +38156,16 @@ static void f30(module *self, u64 p0, u64 p1, u64 p2, u64 p3, u64 p4, u64 p5, u6
   j1 = p2;
   i2 = l73;
   f37(self, j0, j1, i2); m = self->memory; if (NEVER(self->is_broken)) return;
-  goto B47;
-  B54:;
-  j0 = l7;
-  i0 = (u32)(j0);
-  i0 = i32_load8_u(j0 + 161u);
-  l18 = i0;
-  goto B5;
-  B53:;
+  goto B49;
+  B55:;
   i0 = l58;
   j0 = (u64)(i0);
   j1 = 255ull;
   j0 &= j1;
-  p5 = j0;
-  B52:;
+  p6 = j0;
+  B54:;
   j0 = p1;
-  j1 = p5;
+  j1 = p6;
   j0 += j1;
   j1 = 206ull;
   j0 += j1;
@@ -38177,7 +38174,7 @@ static void f30(module *self, u64 p0, u64 p1, u64 p2, u64 p3, u64 p4, u64 p5, u6
   l59 = i0;
   i0 = 1u;
   l27 = i0;
-  B51:;
+  B53:;
   j0 = p1;
   j1 = 1999ull;
   j0 += j1;
@@ -38187,14 +38184,14 @@ static void f30(module *self, u64 p0, u64 p1, u64 p2, u64 p3, u64 p4, u64 p5, u6
   j0 = p1;
   j1 = 2096ull;
   j0 += j1;
-  p5 = j0;
+  p6 = j0;
   i0 = (u32)(j0);
   j0 = i64_load(j0);
   l9 = j0;
   j1 = 16777216ull;
   i0 = j0 > j1;
-  if (i0) {goto B194;}
-  j0 = p5;
+  if (i0) {goto B195;}
+  j0 = p6;
   i0 = (u32)(j0);
   j1 = l9;
   j2 = 3ull;
@@ -38207,180 +38204,9 @@ static void f30(module *self, u64 p0, u64 p1, u64 p2, u64 p3, u64 p4, u64 p5, u6
   j1 += j2;
   i1 = (u32)(j1);
   j1 = i64_load(j1);
-  i0 = j0 > j1;
-  if (i0) {goto B195;}
-  j0 = p1;
-  j1 = 2088ull;
-  j0 += j1;
-  l10 = j0;
-  i0 = (u32)(j0);
-  j0 = i64_load(j0);
-  l9 = j0;
-  j1 = p1;
-  j2 = 2080ull;
-  j1 += j2;
-  l11 = j1;
-  i1 = (u32)(j1);
-  j1 = i64_load(j1);
-  p5 = j1;
-  j0 -= j1;
-  j1 = 2ull;
   i0 = j0 > j1;
   if (i0) {goto B196;}
   j0 = p1;
-  j1 = 2072ull;
-  j0 += j1;
-  j1 = 3ull;
-  i0 = f15(self, j0, j1); m = self->memory; if (NEVER(self->is_broken)) return;
-  i0 = !(i0);
-  if (i0) {goto B195;}
-  j0 = p1;
-  j1 = 2088ull;
-  j0 += j1;
-  i0 = (u32)(j0);
-  j0 = i64_load(j0);
-  l9 = j0;
-  j0 = p1;
-  j1 = 2080ull;
-  j0 += j1;
-  i0 = (u32)(j0);
-  j0 = i64_load(j0);
-  p5 = j0;
-  B196:;
-  j0 = p1;
-  j1 = 2072ull;
-  j0 += j1;
-  p2 = j0;
-  i0 = (u32)(j0);
-  j0 = i64_load(j0);
-  l15 = j0;
-  j1 = p5;
-  j0 += j1;
-  p4 = j0;
-  i0 = (u32)(j0);
-  i1 = 3u;
-  i32_store8(j0 + 2, i1);
-  j0 = p4;
-  i0 = (u32)(j0);
-  i1 = 51459u;
-  i32_store16(j0, i1);
-  j0 = l10;
-  i0 = (u32)(j0);
-  j1 = l9;
-  i64_store(j0, j1);
-  j0 = l11;
-  i0 = (u32)(j0);
-  j1 = p5;
-  j2 = 3ull;
-  j1 += j2;
-  i64_store(j0, j1);
-  j0 = p2;
-  i0 = (u32)(j0);
-  j1 = l15;
-  i64_store(j0, j1);
-  B195:;
-  j0 = p6;
-  i0 = (u32)(j0);
-  i0 = i32_load8_u(j0);
-  l58 = i0;
-  j0 = l8;
-  i0 = (u32)(j0);
-  i0 = i32_load8_u(j0);
-  l27 = i0;
-  B194:;
-  i0 = l58;
-  j0 = (u64)(i0);
-  j1 = 255ull;
-  j0 &= j1;
-  p5 = j0;
-  i0 = l27;
-  j0 = (u64)(i0);
-  j1 = 255ull;
-  j0 &= j1;
-  i0 = (u32)(j0);
-  switch (i0) {
-    case 0: goto B200;
-    case 1: goto B198;
-    case 2: goto B199;
-    default: goto B200;
-  }
-  B200:;
-  j0 = p1;
-  j1 = p5;
-  j0 += j1;
-  j1 = 206ull;
-  j0 += j1;
-  i0 = (u32)(j0);
-  i0 = i32_load8_u(j0);
-  l18 = i0;
-  i0 = 1u;
-  l27 = i0;
-  goto B197;
-  B199:;
-  j0 = p1;
-  j1 = 1998ull;
-  j0 += j1;
-  i0 = (u32)(j0);
-  i1 = l58;
-  i2 = 1u;
-  i1 += i2;
-  l58 = i1;
-  i32_store8(j0, i1);
-  j0 = p1;
-  j1 = p5;
-  j0 += j1;
-  j1 = 718ull;
-  j0 += j1;
-  i0 = (u32)(j0);
-  i0 = i32_load8_u(j0);
-  l18 = i0;
-  i0 = 0u;
-  l27 = i0;
-  goto B197;
-  B198:;
-  j0 = p1;
-  j1 = p5;
-  j0 += j1;
-  j1 = 462ull;
-  j0 += j1;
-  i0 = (u32)(j0);
-  i0 = i32_load8_u(j0);
-  l18 = i0;
-  i0 = 2u;
-  l27 = i0;
-  B197:;
-  j0 = p1;
-  j1 = 1999ull;
-  j0 += j1;
-  i0 = (u32)(j0);
-  i1 = l27;
-  i32_store8(j0, i1);
-  j0 = p1;
-  j1 = 2096ull;
-  j0 += j1;
-  p5 = j0;
-  i0 = (u32)(j0);
-  j0 = i64_load(j0);
-  l9 = j0;
-  j1 = 16777216ull;
-  i0 = j0 > j1;
-  if (i0) {goto B201;}
-  j0 = p5;
-  i0 = (u32)(j0);
-  j1 = l9;
-  j2 = 3ull;
-  j1 += j2;
-  l9 = j1;
-  i64_store(j0, j1);
-  j0 = l9;
-  j1 = p1;
-  j2 = 2104ull;
-  j1 += j2;
-  i1 = (u32)(j1);
-  j1 = i64_load(j1);
-  i0 = j0 > j1;
-  if (i0) {goto B202;}
-  j0 = p1;
   j1 = 2088ull;
   j0 += j1;
   l10 = j0;
@@ -38393,18 +38219,18 @@ static void f30(module *self, u64 p0, u64 p1, u64 p2, u64 p3, u64 p4, u64 p5, u6
   l11 = j1;
   i1 = (u32)(j1);
   j1 = i64_load(j1);
-  p5 = j1;
+  p6 = j1;
   j0 -= j1;
   j1 = 2ull;
   i0 = j0 > j1;
-  if (i0) {goto B203;}
+  if (i0) {goto B197;}
   j0 = p1;
   j1 = 2072ull;
   j0 += j1;
   j1 = 3ull;
   i0 = f15(self, j0, j1); m = self->memory; if (NEVER(self->is_broken)) return;
   i0 = !(i0);
-  if (i0) {goto B202;}
+  if (i0) {goto B196;}
   j0 = p1;
   j1 = 2088ull;
   j0 += j1;
@@ -38416,8 +38242,8 @@ static void f30(module *self, u64 p0, u64 p1, u64 p2, u64 p3, u64 p4, u64 p5, u6
   j0 += j1;
   i0 = (u32)(j0);
   j0 = i64_load(j0);
-  p5 = j0;
-  B203:;
+  p6 = j0;
+  B197:;
   j0 = p1;
   j1 = 2072ull;
   j0 += j1;
@@ -38425,7 +38251,7 @@ static void f30(module *self, u64 p0, u64 p1, u64 p2, u64 p3, u64 p4, u64 p5, u6
   i0 = (u32)(j0);
   j0 = i64_load(j0);
   l15 = j0;
-  j1 = p5;
+  j1 = p6;
   j0 += j1;
   p4 = j0;
   i0 = (u32)(j0);
@@ -38441,7 +38267,7 @@ static void f30(module *self, u64 p0, u64 p1, u64 p2, u64 p3, u64 p4, u64 p5, u6
   i64_store(j0, j1);
   j0 = l11;
   i0 = (u32)(j0);
-  j1 = p5;
+  j1 = p6;
   j2 = 3ull;
   j1 += j2;
   i64_store(j0, j1);
@@ -38449,8 +38275,8 @@ static void f30(module *self, u64 p0, u64 p1, u64 p2, u64 p3, u64 p4, u64 p5, u6
   i0 = (u32)(j0);
   j1 = l15;
   i64_store(j0, j1);
-  B202:;
-  j0 = p6;
+  B196:;
+  j0 = p5;
   i0 = (u32)(j0);
   i0 = i32_load8_u(j0);
   l58 = i0;
@@ -38458,7 +38284,7 @@ static void f30(module *self, u64 p0, u64 p1, u64 p2, u64 p3, u64 p4, u64 p5, u6
   i0 = (u32)(j0);
   i0 = i32_load8_u(j0);
   l27 = i0;
-  B201:;
+  B195:;
   i0 = l58;
   j0 = (u64)(i0);
   j1 = 255ull;
@@ -38470,14 +38296,185 @@ static void f30(module *self, u64 p0, u64 p1, u64 p2, u64 p3, u64 p4, u64 p5, u6
   j0 &= j1;
   i0 = (u32)(j0);
   switch (i0) {
-    case 0: goto B207;
-    case 1: goto B205;
-    case 2: goto B206;
-    default: goto B207;
+    case 0: goto B201;
+    case 1: goto B199;
+    case 2: goto B200;
+    default: goto B201;
   }
-  B207:;
+  B201:;
   j0 = p1;
   j1 = p6;
+  j0 += j1;
+  j1 = 206ull;
+  j0 += j1;
+  i0 = (u32)(j0);
+  i0 = i32_load8_u(j0);
+  l18 = i0;
+  i0 = 1u;
+  l27 = i0;
+  goto B198;
+  B200:;
+  j0 = p1;
+  j1 = 1998ull;
+  j0 += j1;
+  i0 = (u32)(j0);
+  i1 = l58;
+  i2 = 1u;
+  i1 += i2;
+  l58 = i1;
+  i32_store8(j0, i1);
+  j0 = p1;
+  j1 = p6;
+  j0 += j1;
+  j1 = 718ull;
+  j0 += j1;
+  i0 = (u32)(j0);
+  i0 = i32_load8_u(j0);
+  l18 = i0;
+  i0 = 0u;
+  l27 = i0;
+  goto B198;
+  B199:;
+  j0 = p1;
+  j1 = p6;
+  j0 += j1;
+  j1 = 462ull;
+  j0 += j1;
+  i0 = (u32)(j0);
+  i0 = i32_load8_u(j0);
+  l18 = i0;
+  i0 = 2u;
+  l27 = i0;
+  B198:;
+  j0 = p1;
+  j1 = 1999ull;
+  j0 += j1;
+  i0 = (u32)(j0);
+  i1 = l27;
+  i32_store8(j0, i1);
+  j0 = p1;
+  j1 = 2096ull;
+  j0 += j1;
+  p6 = j0;
+  i0 = (u32)(j0);
+  j0 = i64_load(j0);
+  l9 = j0;
+  j1 = 16777216ull;
+  i0 = j0 > j1;
+  if (i0) {goto B202;}
+  j0 = p6;
+  i0 = (u32)(j0);
+  j1 = l9;
+  j2 = 3ull;
+  j1 += j2;
+  l9 = j1;
+  i64_store(j0, j1);
+  j0 = l9;
+  j1 = p1;
+  j2 = 2104ull;
+  j1 += j2;
+  i1 = (u32)(j1);
+  j1 = i64_load(j1);
+  i0 = j0 > j1;
+  if (i0) {goto B203;}
+  j0 = p1;
+  j1 = 2088ull;
+  j0 += j1;
+  l10 = j0;
+  i0 = (u32)(j0);
+  j0 = i64_load(j0);
+  l9 = j0;
+  j1 = p1;
+  j2 = 2080ull;
+  j1 += j2;
+  l11 = j1;
+  i1 = (u32)(j1);
+  j1 = i64_load(j1);
+  p6 = j1;
+  j0 -= j1;
+  j1 = 2ull;
+  i0 = j0 > j1;
+  if (i0) {goto B204;}
+  j0 = p1;
+  j1 = 2072ull;
+  j0 += j1;
+  j1 = 3ull;
+  i0 = f15(self, j0, j1); m = self->memory; if (NEVER(self->is_broken)) return;
+  i0 = !(i0);
+  if (i0) {goto B203;}
+  j0 = p1;
+  j1 = 2088ull;
+  j0 += j1;
+  i0 = (u32)(j0);
+  j0 = i64_load(j0);
+  l9 = j0;
+  j0 = p1;
+  j1 = 2080ull;
+  j0 += j1;
+  i0 = (u32)(j0);
+  j0 = i64_load(j0);
+  p6 = j0;
+  B204:;
+  j0 = p1;
+  j1 = 2072ull;
+  j0 += j1;
+  p2 = j0;
+  i0 = (u32)(j0);
+  j0 = i64_load(j0);
+  l15 = j0;
+  j1 = p6;
+  j0 += j1;
+  p4 = j0;
+  i0 = (u32)(j0);
+  i1 = 3u;
+  i32_store8(j0 + 2, i1);
+  j0 = p4;
+  i0 = (u32)(j0);
+  i1 = 51459u;
+  i32_store16(j0, i1);
+  j0 = l10;
+  i0 = (u32)(j0);
+  j1 = l9;
+  i64_store(j0, j1);
+  j0 = l11;
+  i0 = (u32)(j0);
+  j1 = p6;
+  j2 = 3ull;
+  j1 += j2;
+  i64_store(j0, j1);
+  j0 = p2;
+  i0 = (u32)(j0);
+  j1 = l15;
+  i64_store(j0, j1);
+  B203:;
+  j0 = p5;
+  i0 = (u32)(j0);
+  i0 = i32_load8_u(j0);
+  l58 = i0;
+  j0 = l8;
+  i0 = (u32)(j0);
+  i0 = i32_load8_u(j0);
+  l27 = i0;
+  B202:;
+  i0 = l58;
+  j0 = (u64)(i0);
+  j1 = 255ull;
+  j0 &= j1;
+  p5 = j0;
+  i0 = l27;
+  j0 = (u64)(i0);
+  j1 = 255ull;
+  j0 &= j1;
+  i0 = (u32)(j0);
+  switch (i0) {
+    case 0: goto B208;
+    case 1: goto B206;
+    case 2: goto B207;
+    default: goto B208;
+  }
+  B208:;
+  j0 = p1;
+  j1 = p5;
   j0 += j1;
   j1 = 206ull;
   j0 += j1;
@@ -38486,8 +38483,8 @@ static void f30(module *self, u64 p0, u64 p1, u64 p2, u64 p3, u64 p4, u64 p5, u6
   l58 = i0;
   i0 = 1u;
   l27 = i0;
-  goto B204;
-  B206:;
+  goto B205;
+  B207:;
   j0 = p1;
   j1 = 1998ull;
   j0 += j1;
@@ -38497,7 +38494,7 @@ static void f30(module *self, u64 p0, u64 p1, u64 p2, u64 p3, u64 p4, u64 p5, u6
   i1 += i2;
   i32_store8(j0, i1);
   j0 = p1;
-  j1 = p6;
+  j1 = p5;
   j0 += j1;
   j1 = 718ull;
   j0 += j1;
@@ -38506,10 +38503,10 @@ static void f30(module *self, u64 p0, u64 p1, u64 p2, u64 p3, u64 p4, u64 p5, u6
   l58 = i0;
   i0 = 0u;
   l27 = i0;
-  goto B204;
-  B205:;
+  goto B205;
+  B206:;
   j0 = p1;
-  j1 = p6;
+  j1 = p5;
   j0 += j1;
   j1 = 462ull;
   j0 += j1;
@@ -38518,7 +38515,7 @@ static void f30(module *self, u64 p0, u64 p1, u64 p2, u64 p3, u64 p4, u64 p5, u6
   l58 = i0;
   i0 = 2u;
   l27 = i0;
-  B204:;
+  B205:;
   j0 = l8;
   i0 = (u32)(j0);
   i1 = l27;
@@ -38539,13 +38536,13 @@ static void f30(module *self, u64 p0, u64 p1, u64 p2, u64 p3, u64 p4, u64 p5, u6
   i1 &= i2;
   i0 |= i1;
   l22 = i0;
-  goto B47;
-  B50:;
+  goto B49;
+  B52:;
   i0 = l28;
   i1 = 63u;
   i0 &= i1;
   l27 = i0;
-  B49:;
+  B51:;
   j0 = p1;
   j1 = 2000ull;
   j0 += j1;
@@ -38554,7 +38551,7 @@ static void f30(module *self, u64 p0, u64 p1, u64 p2, u64 p3, u64 p4, u64 p5, u6
   i32_store8(j0, i1);
   i0 = 1u;
   l58 = i0;
-  B48:;
+  B50:;
   j0 = p1;
   j1 = 1999ull;
   j0 += j1;
@@ -38564,66 +38561,66 @@ static void f30(module *self, u64 p0, u64 p1, u64 p2, u64 p3, u64 p4, u64 p5, u6
   j0 = p1;
   j1 = 2096ull;
   j0 += j1;
-  p6 = j0;
+  p5 = j0;
   i0 = (u32)(j0);
   j0 = i64_load(j0);
-  p5 = j0;
+  p6 = j0;
   j1 = 16777216ull;
   i0 = j0 > j1;
-  if (i0) {goto B208;}
-  j0 = p6;
+  if (i0) {goto B209;}
+  j0 = p5;
   i0 = (u32)(j0);
-  j1 = p5;
+  j1 = p6;
   j2 = 4ull;
   j1 += j2;
-  p5 = j1;
+  p6 = j1;
   i64_store(j0, j1);
-  j0 = p5;
+  j0 = p6;
   j1 = p1;
   j2 = 2104ull;
   j1 += j2;
   i1 = (u32)(j1);
   j1 = i64_load(j1);
   i0 = j0 > j1;
-  if (i0) {goto B209;}
+  if (i0) {goto B210;}
   j0 = p1;
   j1 = 2088ull;
   j0 += j1;
   l9 = j0;
   i0 = (u32)(j0);
   j0 = i64_load(j0);
-  p5 = j0;
+  p6 = j0;
   j1 = p1;
   j2 = 2080ull;
   j1 += j2;
   l10 = j1;
   i1 = (u32)(j1);
   j1 = i64_load(j1);
-  p6 = j1;
+  p5 = j1;
   j0 -= j1;
   j1 = 3ull;
   i0 = j0 > j1;
-  if (i0) {goto B210;}
+  if (i0) {goto B211;}
   j0 = p1;
   j1 = 2072ull;
   j0 += j1;
   j1 = 4ull;
   i0 = f15(self, j0, j1); m = self->memory; if (NEVER(self->is_broken)) return;
   i0 = !(i0);
-  if (i0) {goto B209;}
+  if (i0) {goto B210;}
   j0 = p1;
   j1 = 2088ull;
   j0 += j1;
   i0 = (u32)(j0);
   j0 = i64_load(j0);
-  p5 = j0;
+  p6 = j0;
   j0 = p1;
   j1 = 2080ull;
   j0 += j1;
   i0 = (u32)(j0);
   j0 = i64_load(j0);
-  p6 = j0;
-  B210:;
+  p5 = j0;
+  B211:;
   j0 = p1;
   j1 = 2072ull;
   j0 += j1;
@@ -38631,7 +38628,7 @@ static void f30(module *self, u64 p0, u64 p1, u64 p2, u64 p3, u64 p4, u64 p5, u6
   i0 = (u32)(j0);
   j0 = i64_load(j0);
   p2 = j0;
-  j1 = p6;
+  j1 = p5;
   j0 += j1;
   i0 = (u32)(j0);
   i1 = l29;
@@ -38642,11 +38639,11 @@ static void f30(module *self, u64 p0, u64 p1, u64 p2, u64 p3, u64 p4, u64 p5, u6
   i32_store(j0, i1);
   j0 = l9;
   i0 = (u32)(j0);
-  j1 = p5;
+  j1 = p6;
   i64_store(j0, j1);
   j0 = l10;
   i0 = (u32)(j0);
-  j1 = p6;
+  j1 = p5;
   j2 = 4ull;
   j1 += j2;
   i64_store(j0, j1);
@@ -38654,12 +38651,12 @@ static void f30(module *self, u64 p0, u64 p1, u64 p2, u64 p3, u64 p4, u64 p5, u6
   i0 = (u32)(j0);
   j1 = p2;
   i64_store(j0, j1);
-  B209:;
+  B210:;
   j0 = l8;
   i0 = (u32)(j0);
   i0 = i32_load8_u(j0);
   l58 = i0;
-  B208:;
+  B209:;
   i0 = l29;
   i1 = 63u;
   i0 &= i1;
@@ -38670,12 +38667,12 @@ static void f30(module *self, u64 p0, u64 p1, u64 p2, u64 p3, u64 p4, u64 p5, u6
   j0 &= j1;
   i0 = (u32)(j0);
   switch (i0) {
-    case 0: goto B214;
-    case 1: goto B212;
-    case 2: goto B213;
-    default: goto B214;
+    case 0: goto B215;
+    case 1: goto B213;
+    case 2: goto B214;
+    default: goto B215;
   }
-  B214:;
+  B215:;
   j0 = p1;
   j1 = 2000ull;
   j0 += j1;
@@ -38684,14 +38681,14 @@ static void f30(module *self, u64 p0, u64 p1, u64 p2, u64 p3, u64 p4, u64 p5, u6
   i32_store8(j0, i1);
   i0 = 1u;
   l58 = i0;
-  goto B211;
-  B213:;
+  goto B212;
+  B214:;
   j0 = p1;
   j1 = 1998ull;
   j0 += j1;
-  p6 = j0;
+  p5 = j0;
   i0 = (u32)(j0);
-  j1 = p6;
+  j1 = p5;
   i1 = (u32)(j1);
   i1 = i32_load8_u(j1);
   l58 = i1;
@@ -38703,9 +38700,9 @@ static void f30(module *self, u64 p0, u64 p1, u64 p2, u64 p3, u64 p4, u64 p5, u6
   j1 = (u64)(i1);
   j2 = 255ull;
   j1 &= j2;
-  p5 = j1;
+  p6 = j1;
   j0 += j1;
-  p6 = j0;
+  p5 = j0;
   j1 = 206ull;
   j0 += j1;
   i0 = (u32)(j0);
@@ -38716,7 +38713,7 @@ static void f30(module *self, u64 p0, u64 p1, u64 p2, u64 p3, u64 p4, u64 p5, u6
   i1 = i32_load8_u(j1);
   l59 = i1;
   i32_store8(j0, i1);
-  j0 = p6;
+  j0 = p5;
   j1 = 462ull;
   j0 += j1;
   i0 = (u32)(j0);
@@ -38727,7 +38724,7 @@ static void f30(module *self, u64 p0, u64 p1, u64 p2, u64 p3, u64 p4, u64 p5, u6
   i1 = i32_load8_u(j1);
   l18 = i1;
   i32_store8(j0, i1);
-  j0 = p6;
+  j0 = p5;
   j1 = 718ull;
   j0 += j1;
   i0 = (u32)(j0);
@@ -38736,36 +38733,36 @@ static void f30(module *self, u64 p0, u64 p1, u64 p2, u64 p3, u64 p4, u64 p5, u6
   i0 = 0u;
   l58 = i0;
   j0 = p1;
-  j1 = p5;
+  j1 = p6;
   j2 = 2ull;
   j1 <<= (j2 & 63);
   j0 += j1;
-  p6 = j0;
+  p5 = j0;
   j1 = 977ull;
   j0 += j1;
   i0 = (u32)(j0);
   i1 = 0u;
   i32_store8(j0, i1);
-  j0 = p6;
+  j0 = p5;
   j1 = 976ull;
   j0 += j1;
   i0 = (u32)(j0);
   i1 = l27;
   i32_store8(j0, i1);
-  j0 = p6;
+  j0 = p5;
   j1 = 975ull;
   j0 += j1;
   i0 = (u32)(j0);
   i1 = l18;
   i32_store8(j0, i1);
-  j0 = p6;
+  j0 = p5;
   j1 = 974ull;
   j0 += j1;
   i0 = (u32)(j0);
   i1 = l59;
   i32_store8(j0, i1);
-  goto B211;
-  B212:;
+  goto B212;
+  B213:;
   j0 = p1;
   j1 = 2001ull;
   j0 += j1;
@@ -38774,7 +38771,7 @@ static void f30(module *self, u64 p0, u64 p1, u64 p2, u64 p3, u64 p4, u64 p5, u6
   i32_store8(j0, i1);
   i0 = 2u;
   l58 = i0;
-  B211:;
+  B212:;
   i0 = l29;
   i1 = 8u;
   i0 >>= (i1 & 31);
@@ -38788,66 +38785,66 @@ static void f30(module *self, u64 p0, u64 p1, u64 p2, u64 p3, u64 p4, u64 p5, u6
   j0 = p1;
   j1 = 2096ull;
   j0 += j1;
-  p6 = j0;
+  p5 = j0;
   i0 = (u32)(j0);
   j0 = i64_load(j0);
-  p5 = j0;
+  p6 = j0;
   j1 = 16777216ull;
   i0 = j0 > j1;
-  if (i0) {goto B215;}
-  j0 = p6;
+  if (i0) {goto B216;}
+  j0 = p5;
   i0 = (u32)(j0);
-  j1 = p5;
+  j1 = p6;
   j2 = 4ull;
   j1 += j2;
-  p5 = j1;
+  p6 = j1;
   i64_store(j0, j1);
-  j0 = p5;
+  j0 = p6;
   j1 = p1;
   j2 = 2104ull;
   j1 += j2;
   i1 = (u32)(j1);
   j1 = i64_load(j1);
   i0 = j0 > j1;
-  if (i0) {goto B216;}
+  if (i0) {goto B217;}
   j0 = p1;
   j1 = 2088ull;
   j0 += j1;
   l9 = j0;
   i0 = (u32)(j0);
   j0 = i64_load(j0);
-  p5 = j0;
+  p6 = j0;
   j1 = p1;
   j2 = 2080ull;
   j1 += j2;
   l10 = j1;
   i1 = (u32)(j1);
   j1 = i64_load(j1);
-  p6 = j1;
+  p5 = j1;
   j0 -= j1;
   j1 = 3ull;
   i0 = j0 > j1;
-  if (i0) {goto B217;}
+  if (i0) {goto B218;}
   j0 = p1;
   j1 = 2072ull;
   j0 += j1;
   j1 = 4ull;
   i0 = f15(self, j0, j1); m = self->memory; if (NEVER(self->is_broken)) return;
   i0 = !(i0);
-  if (i0) {goto B216;}
+  if (i0) {goto B217;}
   j0 = p1;
   j1 = 2088ull;
   j0 += j1;
   i0 = (u32)(j0);
   j0 = i64_load(j0);
-  p5 = j0;
+  p6 = j0;
   j0 = p1;
   j1 = 2080ull;
   j0 += j1;
   i0 = (u32)(j0);
   j0 = i64_load(j0);
-  p6 = j0;
-  B217:;
+  p5 = j0;
+  B218:;
   j0 = p1;
   j1 = 2072ull;
   j0 += j1;
@@ -38855,7 +38852,7 @@ static void f30(module *self, u64 p0, u64 p1, u64 p2, u64 p3, u64 p4, u64 p5, u6
   i0 = (u32)(j0);
   j0 = i64_load(j0);
   p2 = j0;
-  j1 = p6;
+  j1 = p5;
   j0 += j1;
   i0 = (u32)(j0);
   i1 = l27;
@@ -38866,11 +38863,11 @@ static void f30(module *self, u64 p0, u64 p1, u64 p2, u64 p3, u64 p4, u64 p5, u6
   i32_store(j0, i1);
   j0 = l9;
   i0 = (u32)(j0);
-  j1 = p5;
+  j1 = p6;
   i64_store(j0, j1);
   j0 = l10;
   i0 = (u32)(j0);
-  j1 = p6;
+  j1 = p5;
   j2 = 4ull;
   j1 += j2;
   i64_store(j0, j1);
@@ -38878,12 +38875,12 @@ static void f30(module *self, u64 p0, u64 p1, u64 p2, u64 p3, u64 p4, u64 p5, u6
   i0 = (u32)(j0);
   j1 = p2;
   i64_store(j0, j1);
-  B216:;
+  B217:;
   j0 = l8;
   i0 = (u32)(j0);
   i0 = i32_load8_u(j0);
   l58 = i0;
-  B215:;
+  B216:;
   i0 = l27;
   i1 = 63u;
   i0 &= i1;
@@ -38894,12 +38891,12 @@ static void f30(module *self, u64 p0, u64 p1, u64 p2, u64 p3, u64 p4, u64 p5, u6
   j0 &= j1;
   i0 = (u32)(j0);
   switch (i0) {
-    case 0: goto B220;
-    case 1: goto B218;
-    case 2: goto B219;
-    default: goto B220;
+    case 0: goto B221;
+    case 1: goto B219;
+    case 2: goto B220;
+    default: goto B221;
   }
-  B220:;
+  B221:;
   j0 = p1;
   j1 = 2000ull;
   j0 += j1;
@@ -38910,14 +38907,14 @@ static void f30(module *self, u64 p0, u64 p1, u64 p2, u64 p3, u64 p4, u64 p5, u6
   i0 = (u32)(j0);
   i1 = 1u;
   i32_store8(j0, i1);
-  goto B47;
-  B219:;
+  goto B49;
+  B220:;
   j0 = p1;
   j1 = 1998ull;
   j0 += j1;
-  p6 = j0;
+  p5 = j0;
   i0 = (u32)(j0);
-  j1 = p6;
+  j1 = p5;
   i1 = (u32)(j1);
   i1 = i32_load8_u(j1);
   l58 = i1;
@@ -38929,9 +38926,9 @@ static void f30(module *self, u64 p0, u64 p1, u64 p2, u64 p3, u64 p4, u64 p5, u6
   j1 = (u64)(i1);
   j2 = 255ull;
   j1 &= j2;
-  p5 = j1;
+  p6 = j1;
   j0 += j1;
-  p6 = j0;
+  p5 = j0;
   j1 = 206ull;
   j0 += j1;
   i0 = (u32)(j0);
@@ -38942,7 +38939,7 @@ static void f30(module *self, u64 p0, u64 p1, u64 p2, u64 p3, u64 p4, u64 p5, u6
   i1 = i32_load8_u(j1);
   l58 = i1;
   i32_store8(j0, i1);
-  j0 = p6;
+  j0 = p5;
   j1 = 462ull;
   j0 += j1;
   i0 = (u32)(j0);
@@ -38953,14 +38950,14 @@ static void f30(module *self, u64 p0, u64 p1, u64 p2, u64 p3, u64 p4, u64 p5, u6
   i1 = i32_load8_u(j1);
   l59 = i1;
   i32_store8(j0, i1);
-  j0 = p6;
+  j0 = p5;
   j1 = 718ull;
   j0 += j1;
   i0 = (u32)(j0);
   i1 = l27;
   i32_store8(j0, i1);
   j0 = p1;
-  j1 = p5;
+  j1 = p6;
   j2 = 2ull;
   j1 <<= (j2 & 63);
   j0 += j1;
@@ -38992,8 +38989,8 @@ static void f30(module *self, u64 p0, u64 p1, u64 p2, u64 p3, u64 p4, u64 p5, u6
   i0 = (u32)(j0);
   i1 = 0u;
   i32_store8(j0, i1);
-  goto B47;
-  B218:;
+  goto B49;
+  B219:;
   j0 = p1;
   j1 = 2001ull;
   j0 += j1;
@@ -39004,13 +39001,13 @@ static void f30(module *self, u64 p0, u64 p1, u64 p2, u64 p3, u64 p4, u64 p5, u6
   i0 = (u32)(j0);
   i1 = 2u;
   i32_store8(j0, i1);
-  B47:;
+  B49:;
   j0 = l12;
   l8 = j0;
-  B46:;
+  B48:;
   i0 = l40;
   l59 = i0;
-  B45:;
+  B47:;
   i0 = l22;
   j0 = (u64)(i0);
   j1 = 65535ull;
@@ -39062,7 +39059,7 @@ static void f30(module *self, u64 p0, u64 p1, u64 p2, u64 p3, u64 p4, u64 p5, u6
   j0 = 0ull;
   l9 = j0;
   j0 = 0ull;
-  p6 = j0;
+  p5 = j0;
   B9:;
   j0 = p0;
   i0 = (u32)(j0);
@@ -39072,7 +39069,7 @@ static void f30(module *self, u64 p0, u64 p1, u64 p2, u64 p3, u64 p4, u64 p5, u6
   j1 = 32ull;
   j0 += j1;
   i0 = (u32)(j0);
-  j1 = p6;
+  j1 = p5;
   i64_store(j0, j1);
   j0 = p0;
   j1 = 24ull;
@@ -39160,299 +39157,299 @@ static void f30(module *self, u64 p0, u64 p1, u64 p2, u64 p3, u64 p4, u64 p5, u6
   j0 = l7;
   i0 = (u32)(j0);
   i1 = 0u;
-  i32_store(j0 + 190, i1);
+  i32_store(j0 + 182, i1);
   j0 = l7;
   i0 = (u32)(j0);
   i1 = l62;
-  i32_store8(j0 + 189, i1);
+  i32_store8(j0 + 181, i1);
   j0 = l7;
   i0 = (u32)(j0);
   i1 = 0u;
-  i32_store8(j0 + 188, i1);
+  i32_store8(j0 + 180, i1);
   j0 = l7;
   i0 = (u32)(j0);
   i1 = l61;
-  i32_store8(j0 + 187, i1);
+  i32_store8(j0 + 179, i1);
   j0 = l7;
   i0 = (u32)(j0);
   i1 = l59;
-  i32_store8(j0 + 186, i1);
+  i32_store8(j0 + 178, i1);
   j0 = l7;
   i0 = (u32)(j0);
   i1 = 3u;
-  i32_store8(j0 + 185, i1);
+  i32_store8(j0 + 177, i1);
   j0 = l7;
   i0 = (u32)(j0);
   i1 = l58;
-  i32_store8(j0 + 184, i1);
+  i32_store8(j0 + 176, i1);
   j0 = l7;
   i0 = (u32)(j0);
   i1 = 0u;
-  i32_store8(j0 + 194, i1);
-  j0 = l7;
-  i0 = (u32)(j0);
-  i1 = 0u;
-  i32_store16(j0 + 266, i1);
-  j0 = l7;
-  i0 = (u32)(j0);
-  i1 = l73;
-  i32_store8(j0 + 265, i1);
-  j0 = l7;
-  i0 = (u32)(j0);
-  i1 = l72;
-  i32_store8(j0 + 264, i1);
-  j0 = l7;
-  i0 = (u32)(j0);
-  i1 = l22;
-  i32_store(j0 + 260, i1);
+  i32_store8(j0 + 186, i1);
   j0 = l7;
   i0 = (u32)(j0);
   i1 = 0u;
   i32_store16(j0 + 258, i1);
   j0 = l7;
   i0 = (u32)(j0);
-  i1 = l23;
-  i32_store16(j0 + 256, i1);
+  i1 = l73;
+  i32_store8(j0 + 257, i1);
   j0 = l7;
   i0 = (u32)(j0);
-  i1 = l24;
-  i32_store16(j0 + 254, i1);
+  i1 = l72;
+  i32_store8(j0 + 256, i1);
+  j0 = l7;
+  i0 = (u32)(j0);
+  i1 = l22;
+  i32_store(j0 + 252, i1);
   j0 = l7;
   i0 = (u32)(j0);
   i1 = 0u;
-  i32_store8(j0 + 253, i1);
+  i32_store16(j0 + 250, i1);
   j0 = l7;
   i0 = (u32)(j0);
-  i1 = l19;
-  i32_store8(j0 + 252, i1);
-  j0 = l7;
-  i0 = (u32)(j0);
-  i1 = l25;
-  i32_store8(j0 + 251, i1);
-  j0 = l7;
-  i0 = (u32)(j0);
-  i1 = l70;
-  i32_store8(j0 + 250, i1);
-  j0 = l7;
-  i0 = (u32)(j0);
-  i1 = l26;
+  i1 = l23;
   i32_store16(j0 + 248, i1);
   j0 = l7;
   i0 = (u32)(j0);
-  i1 = l69;
+  i1 = l24;
   i32_store16(j0 + 246, i1);
   j0 = l7;
   i0 = (u32)(j0);
   i1 = 0u;
-  i32_store16(j0 + 244, i1);
+  i32_store8(j0 + 245, i1);
   j0 = l7;
   i0 = (u32)(j0);
-  i1 = l28;
+  i1 = l19;
+  i32_store8(j0 + 244, i1);
+  j0 = l7;
+  i0 = (u32)(j0);
+  i1 = l25;
   i32_store8(j0 + 243, i1);
   j0 = l7;
   i0 = (u32)(j0);
-  i1 = 3840u;
-  i32_store16(j0 + 241, i1);
+  i1 = l70;
+  i32_store8(j0 + 242, i1);
   j0 = l7;
   i0 = (u32)(j0);
-  i1 = l29;
-  i32_store8(j0 + 240, i1);
+  i1 = l26;
+  i32_store16(j0 + 240, i1);
   j0 = l7;
   i0 = (u32)(j0);
-  i1 = l30;
-  i32_store8(j0 + 239, i1);
+  i1 = l69;
+  i32_store16(j0 + 238, i1);
   j0 = l7;
   i0 = (u32)(j0);
-  i1 = l31;
-  i32_store8(j0 + 238, i1);
+  i1 = 0u;
+  i32_store16(j0 + 236, i1);
   j0 = l7;
   i0 = (u32)(j0);
-  i1 = l32;
-  i32_store8(j0 + 237, i1);
-  j0 = l7;
-  i0 = (u32)(j0);
-  i1 = l33;
-  i32_store8(j0 + 236, i1);
-  j0 = l7;
-  i0 = (u32)(j0);
-  i1 = l34;
+  i1 = l28;
   i32_store8(j0 + 235, i1);
   j0 = l7;
   i0 = (u32)(j0);
-  i1 = l35;
-  i32_store8(j0 + 234, i1);
+  i1 = 3840u;
+  i32_store16(j0 + 233, i1);
   j0 = l7;
   i0 = (u32)(j0);
-  i1 = l36;
-  i32_store8(j0 + 233, i1);
-  j0 = l7;
-  i0 = (u32)(j0);
-  i1 = l37;
+  i1 = l29;
   i32_store8(j0 + 232, i1);
   j0 = l7;
   i0 = (u32)(j0);
-  i1 = l38;
+  i1 = l30;
   i32_store8(j0 + 231, i1);
   j0 = l7;
   i0 = (u32)(j0);
-  i1 = l39;
+  i1 = l31;
   i32_store8(j0 + 230, i1);
   j0 = l7;
   i0 = (u32)(j0);
-  i1 = l40;
+  i1 = l32;
   i32_store8(j0 + 229, i1);
   j0 = l7;
   i0 = (u32)(j0);
-  i1 = l18;
+  i1 = l33;
   i32_store8(j0 + 228, i1);
   j0 = l7;
   i0 = (u32)(j0);
-  i1 = l68;
+  i1 = l34;
   i32_store8(j0 + 227, i1);
   j0 = l7;
   i0 = (u32)(j0);
-  i1 = l57;
+  i1 = l35;
   i32_store8(j0 + 226, i1);
   j0 = l7;
   i0 = (u32)(j0);
-  i1 = l21;
+  i1 = l36;
   i32_store8(j0 + 225, i1);
   j0 = l7;
   i0 = (u32)(j0);
-  i1 = 255u;
-  i32_store16(j0 + 223, i1);
+  i1 = l37;
+  i32_store8(j0 + 224, i1);
   j0 = l7;
   i0 = (u32)(j0);
-  i1 = l41;
+  i1 = l38;
+  i32_store8(j0 + 223, i1);
+  j0 = l7;
+  i0 = (u32)(j0);
+  i1 = l39;
   i32_store8(j0 + 222, i1);
   j0 = l7;
   i0 = (u32)(j0);
-  i1 = l42;
+  i1 = l40;
   i32_store8(j0 + 221, i1);
   j0 = l7;
   i0 = (u32)(j0);
-  i1 = l43;
+  i1 = l18;
   i32_store8(j0 + 220, i1);
   j0 = l7;
   i0 = (u32)(j0);
-  i1 = l67;
+  i1 = l68;
   i32_store8(j0 + 219, i1);
   j0 = l7;
   i0 = (u32)(j0);
-  i1 = l44;
+  i1 = l57;
   i32_store8(j0 + 218, i1);
   j0 = l7;
   i0 = (u32)(j0);
-  i1 = l45;
+  i1 = l21;
   i32_store8(j0 + 217, i1);
   j0 = l7;
   i0 = (u32)(j0);
-  i1 = l46;
-  i32_store8(j0 + 216, i1);
+  i1 = 255u;
+  i32_store16(j0 + 215, i1);
   j0 = l7;
   i0 = (u32)(j0);
-  i1 = l47;
-  i32_store8(j0 + 215, i1);
+  i1 = l41;
+  i32_store8(j0 + 214, i1);
   j0 = l7;
   i0 = (u32)(j0);
-  i1 = 0u;
-  i32_store(j0 + 211, i1);
+  i1 = l42;
+  i32_store8(j0 + 213, i1);
   j0 = l7;
   i0 = (u32)(j0);
-  i1 = l66;
+  i1 = l43;
+  i32_store8(j0 + 212, i1);
+  j0 = l7;
+  i0 = (u32)(j0);
+  i1 = l67;
+  i32_store8(j0 + 211, i1);
+  j0 = l7;
+  i0 = (u32)(j0);
+  i1 = l44;
   i32_store8(j0 + 210, i1);
   j0 = l7;
   i0 = (u32)(j0);
-  i1 = l48;
+  i1 = l45;
   i32_store8(j0 + 209, i1);
   j0 = l7;
   i0 = (u32)(j0);
-  i1 = l65;
+  i1 = l46;
   i32_store8(j0 + 208, i1);
   j0 = l7;
   i0 = (u32)(j0);
-  i1 = 0u;
+  i1 = l47;
   i32_store8(j0 + 207, i1);
   j0 = l7;
   i0 = (u32)(j0);
-  i1 = l49;
-  i32_store8(j0 + 206, i1);
+  i1 = 0u;
+  i32_store(j0 + 203, i1);
   j0 = l7;
   i0 = (u32)(j0);
-  i1 = l50;
-  i32_store8(j0 + 205, i1);
-  j0 = l7;
-  i0 = (u32)(j0);
-  i1 = l51;
-  i32_store8(j0 + 204, i1);
-  j0 = l7;
-  i0 = (u32)(j0);
-  i1 = l52;
-  i32_store8(j0 + 203, i1);
-  j0 = l7;
-  i0 = (u32)(j0);
-  i1 = l53;
+  i1 = l66;
   i32_store8(j0 + 202, i1);
   j0 = l7;
   i0 = (u32)(j0);
-  i1 = l27;
+  i1 = l48;
   i32_store8(j0 + 201, i1);
   j0 = l7;
   i0 = (u32)(j0);
-  i1 = l54;
+  i1 = l65;
   i32_store8(j0 + 200, i1);
   j0 = l7;
   i0 = (u32)(j0);
-  i1 = l55;
+  i1 = 0u;
   i32_store8(j0 + 199, i1);
   j0 = l7;
   i0 = (u32)(j0);
-  i1 = 255u;
+  i1 = l49;
   i32_store8(j0 + 198, i1);
   j0 = l7;
   i0 = (u32)(j0);
-  i1 = l64;
+  i1 = l50;
   i32_store8(j0 + 197, i1);
   j0 = l7;
   i0 = (u32)(j0);
-  i1 = l56;
+  i1 = l51;
   i32_store8(j0 + 196, i1);
   j0 = l7;
   i0 = (u32)(j0);
-  i1 = l63;
+  i1 = l52;
   i32_store8(j0 + 195, i1);
+  j0 = l7;
+  i0 = (u32)(j0);
+  i1 = l53;
+  i32_store8(j0 + 194, i1);
+  j0 = l7;
+  i0 = (u32)(j0);
+  i1 = l27;
+  i32_store8(j0 + 193, i1);
+  j0 = l7;
+  i0 = (u32)(j0);
+  i1 = l54;
+  i32_store8(j0 + 192, i1);
+  j0 = l7;
+  i0 = (u32)(j0);
+  i1 = l55;
+  i32_store8(j0 + 191, i1);
+  j0 = l7;
+  i0 = (u32)(j0);
+  i1 = 255u;
+  i32_store8(j0 + 190, i1);
+  j0 = l7;
+  i0 = (u32)(j0);
+  i1 = l64;
+  i32_store8(j0 + 189, i1);
+  j0 = l7;
+  i0 = (u32)(j0);
+  i1 = l56;
+  i32_store8(j0 + 188, i1);
+  j0 = l7;
+  i0 = (u32)(j0);
+  i1 = l63;
+  i32_store8(j0 + 187, i1);
   j0 = p1;
   j1 = 2096ull;
   j0 += j1;
   l8 = j0;
   i0 = (u32)(j0);
   j0 = i64_load(j0);
-  p6 = j0;
+  p5 = j0;
   j1 = 16777216ull;
   i0 = j0 > j1;
-  if (i0) {goto B221;}
+  if (i0) {goto B222;}
   j0 = l8;
   i0 = (u32)(j0);
-  j1 = p6;
+  j1 = p5;
   j2 = 4ull;
   j1 += j2;
-  p6 = j1;
+  p5 = j1;
   i64_store(j0, j1);
-  j0 = p6;
+  j0 = p5;
   j1 = p1;
   j2 = 2104ull;
   j1 += j2;
   i1 = (u32)(j1);
   j1 = i64_load(j1);
   i0 = j0 > j1;
-  if (i0) {goto B221;}
+  if (i0) {goto B222;}
   j0 = p1;
   j1 = 2088ull;
   j0 += j1;
-  p5 = j0;
+  p6 = j0;
   i0 = (u32)(j0);
   j0 = i64_load(j0);
-  p6 = j0;
+  p5 = j0;
   j1 = p1;
   j2 = 2080ull;
   j1 += j2;
@@ -39463,27 +39460,27 @@ static void f30(module *self, u64 p0, u64 p1, u64 p2, u64 p3, u64 p4, u64 p5, u6
   j0 -= j1;
   j1 = 3ull;
   i0 = j0 > j1;
-  if (i0) {goto B222;}
+  if (i0) {goto B223;}
   j0 = p1;
   j1 = 2072ull;
   j0 += j1;
   j1 = 4ull;
   i0 = f15(self, j0, j1); m = self->memory; if (NEVER(self->is_broken)) return;
   i0 = !(i0);
-  if (i0) {goto B221;}
+  if (i0) {goto B222;}
   j0 = p1;
   j1 = 2088ull;
   j0 += j1;
   i0 = (u32)(j0);
   j0 = i64_load(j0);
-  p6 = j0;
+  p5 = j0;
   j0 = p1;
   j1 = 2080ull;
   j0 += j1;
   i0 = (u32)(j0);
   j0 = i64_load(j0);
   l8 = j0;
-  B222:;
+  B223:;
   j0 = p1;
   j1 = 2072ull;
   j0 += j1;
@@ -39500,9 +39497,9 @@ static void f30(module *self, u64 p0, u64 p1, u64 p2, u64 p3, u64 p4, u64 p5, u6
   i2 = 246273u;
   i1 |= i2;
   i32_store(j0, i1);
-  j0 = p5;
+  j0 = p6;
   i0 = (u32)(j0);
-  j1 = p6;
+  j1 = p5;
   i64_store(j0, j1);
   j0 = l9;
   i0 = (u32)(j0);
@@ -39514,17 +39511,17 @@ static void f30(module *self, u64 p0, u64 p1, u64 p2, u64 p3, u64 p4, u64 p5, u6
   i0 = (u32)(j0);
   j1 = l11;
   i64_store(j0, j1);
-  B221:;
+  B222:;
   j0 = l7;
-  j1 = 199ull;
+  j1 = 191ull;
   j0 += j1;
   l9 = j0;
   j0 = l7;
-  j1 = 190ull;
+  j1 = 182ull;
   j0 += j1;
   l10 = j0;
   j0 = l7;
-  j1 = 184ull;
+  j1 = 176ull;
   j0 += j1;
   j1 = 1ull;
   j0 |= j1;
@@ -39547,7 +39544,7 @@ static void f30(module *self, u64 p0, u64 p1, u64 p2, u64 p3, u64 p4, u64 p5, u6
   l8 = j0;
   i0 = 246785u;
   l27 = i0;
-  L223: 
+  L224: 
     j0 = l11;
     j1 = l8;
     j0 += j1;
@@ -39560,13 +39557,13 @@ static void f30(module *self, u64 p0, u64 p1, u64 p2, u64 p3, u64 p4, u64 p5, u6
     j0 = p1;
     j1 = 2096ull;
     j0 += j1;
-    p5 = j0;
+    p6 = j0;
     i0 = (u32)(j0);
     j0 = i64_load(j0);
-    p6 = j0;
+    p5 = j0;
     j1 = 16777217ull;
     i0 = j0 < j1;
-    if (i0) {goto B225;}
+    if (i0) {goto B226;}
     j0 = p1;
     j1 = 56ull;
     j0 += j1;
@@ -39576,61 +39573,61 @@ static void f30(module *self, u64 p0, u64 p1, u64 p2, u64 p3, u64 p4, u64 p5, u6
     i1 &= i2;
     l58 = i1;
     i32_store8(j0, i1);
-    goto B224;
-    B225:;
-    j0 = p5;
+    goto B225;
+    B226:;
+    j0 = p6;
     i0 = (u32)(j0);
-    j1 = p6;
+    j1 = p5;
     j2 = 4ull;
     j1 += j2;
-    p6 = j1;
+    p5 = j1;
     i64_store(j0, j1);
-    j0 = p6;
+    j0 = p5;
     j1 = p1;
     j2 = 2104ull;
     j1 += j2;
     i1 = (u32)(j1);
     j1 = i64_load(j1);
     i0 = j0 > j1;
-    if (i0) {goto B226;}
+    if (i0) {goto B227;}
     j0 = p1;
     j1 = 2088ull;
     j0 += j1;
     l16 = j0;
     i0 = (u32)(j0);
     j0 = i64_load(j0);
-    p5 = j0;
+    p6 = j0;
     j1 = p1;
     j2 = 2080ull;
     j1 += j2;
     l17 = j1;
     i1 = (u32)(j1);
     j1 = i64_load(j1);
-    p6 = j1;
+    p5 = j1;
     j0 -= j1;
     j1 = 3ull;
     i0 = j0 > j1;
-    if (i0) {goto B228;}
+    if (i0) {goto B229;}
     j0 = p1;
     j1 = 2072ull;
     j0 += j1;
     j1 = 4ull;
     i0 = f15(self, j0, j1); m = self->memory; if (NEVER(self->is_broken)) return;
     i0 = !(i0);
-    if (i0) {goto B227;}
+    if (i0) {goto B228;}
     j0 = p1;
     j1 = 2088ull;
     j0 += j1;
     i0 = (u32)(j0);
     j0 = i64_load(j0);
-    p5 = j0;
+    p6 = j0;
     j0 = p1;
     j1 = 2080ull;
     j0 += j1;
     i0 = (u32)(j0);
     j0 = i64_load(j0);
-    p6 = j0;
-    B228:;
+    p5 = j0;
+    B229:;
     j0 = p1;
     j1 = 2072ull;
     j0 += j1;
@@ -39638,18 +39635,18 @@ static void f30(module *self, u64 p0, u64 p1, u64 p2, u64 p3, u64 p4, u64 p5, u6
     i0 = (u32)(j0);
     j0 = i64_load(j0);
     l14 = j0;
-    j1 = p6;
+    j1 = p5;
     j0 += j1;
     i0 = (u32)(j0);
     i1 = l27;
     i32_store(j0, i1);
     j0 = l16;
     i0 = (u32)(j0);
-    j1 = p5;
+    j1 = p6;
     i64_store(j0, j1);
     j0 = l17;
     i0 = (u32)(j0);
-    j1 = p6;
+    j1 = p5;
     j2 = 4ull;
     j1 += j2;
     i64_store(j0, j1);
@@ -39657,14 +39654,14 @@ static void f30(module *self, u64 p0, u64 p1, u64 p2, u64 p3, u64 p4, u64 p5, u6
     i0 = (u32)(j0);
     j1 = l14;
     i64_store(j0, j1);
-    B227:;
+    B228:;
     j0 = p1;
     j1 = 2096ull;
     j0 += j1;
     i0 = (u32)(j0);
     j0 = i64_load(j0);
-    p6 = j0;
-    B226:;
+    p5 = j0;
+    B227:;
     j0 = p1;
     j1 = 56ull;
     j0 += j1;
@@ -39674,65 +39671,65 @@ static void f30(module *self, u64 p0, u64 p1, u64 p2, u64 p3, u64 p4, u64 p5, u6
     i1 &= i2;
     l58 = i1;
     i32_store8(j0, i1);
-    j0 = p6;
+    j0 = p5;
     j1 = 16777216ull;
     i0 = j0 > j1;
-    if (i0) {goto B224;}
+    if (i0) {goto B225;}
     j0 = p1;
     j1 = 2096ull;
     j0 += j1;
     i0 = (u32)(j0);
-    j1 = p6;
+    j1 = p5;
     j2 = 4ull;
     j1 += j2;
-    p6 = j1;
+    p5 = j1;
     i64_store(j0, j1);
-    j0 = p6;
+    j0 = p5;
     j1 = p1;
     j2 = 2104ull;
     j1 += j2;
     i1 = (u32)(j1);
     j1 = i64_load(j1);
     i0 = j0 > j1;
-    if (i0) {goto B229;}
+    if (i0) {goto B230;}
     j0 = p1;
     j1 = 2088ull;
     j0 += j1;
     l16 = j0;
     i0 = (u32)(j0);
     j0 = i64_load(j0);
-    p5 = j0;
+    p6 = j0;
     j1 = p1;
     j2 = 2080ull;
     j1 += j2;
     l17 = j1;
     i1 = (u32)(j1);
     j1 = i64_load(j1);
-    p6 = j1;
+    p5 = j1;
     j0 -= j1;
     j1 = 3ull;
     i0 = j0 > j1;
-    if (i0) {goto B230;}
+    if (i0) {goto B231;}
     j0 = p1;
     j1 = 2072ull;
     j0 += j1;
     j1 = 4ull;
     i0 = f15(self, j0, j1); m = self->memory; if (NEVER(self->is_broken)) return;
     i0 = !(i0);
-    if (i0) {goto B229;}
+    if (i0) {goto B230;}
     j0 = p1;
     j1 = 2088ull;
     j0 += j1;
     i0 = (u32)(j0);
     j0 = i64_load(j0);
-    p5 = j0;
+    p6 = j0;
     j0 = p1;
     j1 = 2080ull;
     j0 += j1;
     i0 = (u32)(j0);
     j0 = i64_load(j0);
-    p6 = j0;
-    B230:;
+    p5 = j0;
+    B231:;
     j0 = p1;
     j1 = 2072ull;
     j0 += j1;
@@ -39740,7 +39737,7 @@ static void f30(module *self, u64 p0, u64 p1, u64 p2, u64 p3, u64 p4, u64 p5, u6
     i0 = (u32)(j0);
     j0 = i64_load(j0);
     l14 = j0;
-    j1 = p6;
+    j1 = p5;
     j0 += j1;
     i0 = (u32)(j0);
     i1 = l59;
@@ -39751,11 +39748,11 @@ static void f30(module *self, u64 p0, u64 p1, u64 p2, u64 p3, u64 p4, u64 p5, u6
     i32_store(j0, i1);
     j0 = l16;
     i0 = (u32)(j0);
-    j1 = p5;
+    j1 = p6;
     i64_store(j0, j1);
     j0 = l17;
     i0 = (u32)(j0);
-    j1 = p6;
+    j1 = p5;
     j2 = 4ull;
     j1 += j2;
     i64_store(j0, j1);
@@ -39763,30 +39760,30 @@ static void f30(module *self, u64 p0, u64 p1, u64 p2, u64 p3, u64 p4, u64 p5, u6
     i0 = (u32)(j0);
     j1 = l14;
     i64_store(j0, j1);
-    B229:;
+    B230:;
     j0 = p1;
     j1 = 56ull;
     j0 += j1;
     i0 = (u32)(j0);
     i0 = i32_load8_u(j0);
     l58 = i0;
-    B224:;
+    B225:;
     i0 = l58;
     i1 = 255u;
     i0 &= i1;
     i1 = 4u;
     i0 = i0 > i1;
-    if (i0) {goto B231;}
+    if (i0) {goto B232;}
     j0 = l12;
     i1 = l58;
     j1 = (u64)(i1);
     j2 = 255ull;
     j1 &= j2;
-    p6 = j1;
+    p5 = j1;
     j0 += j1;
     i0 = (u32)(j0);
     j1 = l15;
-    j2 = p6;
+    j2 = p5;
     j1 += j2;
     i1 = (u32)(j1);
     i1 = i32_load8_u(j1);
@@ -39812,9 +39809,9 @@ static void f30(module *self, u64 p0, u64 p1, u64 p2, u64 p3, u64 p4, u64 p5, u6
     j0 = p1;
     j1 = 73ull;
     j0 += j1;
-    p6 = j0;
+    p5 = j0;
     i0 = (u32)(j0);
-    j1 = p6;
+    j1 = p5;
     i1 = (u32)(j1);
     i1 = i32_load8_u(j1);
     i2 = 1u;
@@ -39823,9 +39820,9 @@ static void f30(module *self, u64 p0, u64 p1, u64 p2, u64 p3, u64 p4, u64 p5, u6
     j0 = p1;
     j1 = 72ull;
     j0 += j1;
-    p6 = j0;
+    p5 = j0;
     i0 = (u32)(j0);
-    j1 = p6;
+    j1 = p5;
     i1 = (u32)(j1);
     i1 = i32_load8_u(j1);
     i2 = 1u;
@@ -39834,9 +39831,9 @@ static void f30(module *self, u64 p0, u64 p1, u64 p2, u64 p3, u64 p4, u64 p5, u6
     j0 = p1;
     j1 = 69ull;
     j0 += j1;
-    p6 = j0;
+    p5 = j0;
     i0 = (u32)(j0);
-    j1 = p6;
+    j1 = p5;
     i1 = (u32)(j1);
     i1 = i32_load8_u(j1);
     i2 = 1u;
@@ -39867,7 +39864,7 @@ static void f30(module *self, u64 p0, u64 p1, u64 p2, u64 p3, u64 p4, u64 p5, u6
     i2 = 1u;
     i1 &= i2;
     i32_store8(j0, i1);
-    B231:;
+    B232:;
     i0 = l27;
     i1 = 16777216u;
     i0 += i1;
@@ -39878,7 +39875,7 @@ static void f30(module *self, u64 p0, u64 p1, u64 p2, u64 p3, u64 p4, u64 p5, u6
     l8 = j0;
     j1 = 5ull;
     i0 = j0 != j1;
-    if (i0) {goto L223;}
+    if (i0) {goto L224;}
   j0 = p1;
   i1 = l24;
   i2 = 17u;
@@ -39894,7 +39891,7 @@ static void f30(module *self, u64 p0, u64 p1, u64 p2, u64 p3, u64 p4, u64 p5, u6
   f34(self, j0, i1, i2); m = self->memory; if (NEVER(self->is_broken)) return;
   j0 = 0ull;
   l8 = j0;
-  L232: 
+  L233: 
     j0 = l9;
     j1 = l8;
     j0 += j1;
@@ -39916,7 +39913,7 @@ static void f30(module *self, u64 p0, u64 p1, u64 p2, u64 p3, u64 p4, u64 p5, u6
     l8 = j0;
     j1 = 25ull;
     i0 = j0 != j1;
-    if (i0) {goto L232;}
+    if (i0) {goto L233;}
   j0 = p1;
   j1 = 47ull;
   j0 += j1;
@@ -39929,7 +39926,7 @@ static void f30(module *self, u64 p0, u64 p1, u64 p2, u64 p3, u64 p4, u64 p5, u6
   l8 = j0;
   i0 = 249345u;
   l27 = i0;
-  L233: 
+  L234: 
     j0 = l10;
     j1 = l8;
     j0 += j1;
@@ -39942,13 +39939,13 @@ static void f30(module *self, u64 p0, u64 p1, u64 p2, u64 p3, u64 p4, u64 p5, u6
     j0 = p1;
     j1 = 2096ull;
     j0 += j1;
-    p5 = j0;
+    p6 = j0;
     i0 = (u32)(j0);
     j0 = i64_load(j0);
-    p6 = j0;
+    p5 = j0;
     j1 = 16777217ull;
     i0 = j0 < j1;
-    if (i0) {goto B235;}
+    if (i0) {goto B236;}
     j0 = p1;
     j1 = 57ull;
     j0 += j1;
@@ -39958,61 +39955,61 @@ static void f30(module *self, u64 p0, u64 p1, u64 p2, u64 p3, u64 p4, u64 p5, u6
     i1 &= i2;
     l58 = i1;
     i32_store8(j0, i1);
-    goto B234;
-    B235:;
-    j0 = p5;
+    goto B235;
+    B236:;
+    j0 = p6;
     i0 = (u32)(j0);
-    j1 = p6;
+    j1 = p5;
     j2 = 4ull;
     j1 += j2;
-    p6 = j1;
+    p5 = j1;
     i64_store(j0, j1);
-    j0 = p6;
+    j0 = p5;
     j1 = p1;
     j2 = 2104ull;
     j1 += j2;
     i1 = (u32)(j1);
     j1 = i64_load(j1);
     i0 = j0 > j1;
-    if (i0) {goto B236;}
+    if (i0) {goto B237;}
     j0 = p1;
     j1 = 2088ull;
     j0 += j1;
     l9 = j0;
     i0 = (u32)(j0);
     j0 = i64_load(j0);
-    p5 = j0;
+    p6 = j0;
     j1 = p1;
     j2 = 2080ull;
     j1 += j2;
     l11 = j1;
     i1 = (u32)(j1);
     j1 = i64_load(j1);
-    p6 = j1;
+    p5 = j1;
     j0 -= j1;
     j1 = 3ull;
     i0 = j0 > j1;
-    if (i0) {goto B238;}
+    if (i0) {goto B239;}
     j0 = p1;
     j1 = 2072ull;
     j0 += j1;
     j1 = 4ull;
     i0 = f15(self, j0, j1); m = self->memory; if (NEVER(self->is_broken)) return;
     i0 = !(i0);
-    if (i0) {goto B237;}
+    if (i0) {goto B238;}
     j0 = p1;
     j1 = 2088ull;
     j0 += j1;
     i0 = (u32)(j0);
     j0 = i64_load(j0);
-    p5 = j0;
+    p6 = j0;
     j0 = p1;
     j1 = 2080ull;
     j0 += j1;
     i0 = (u32)(j0);
     j0 = i64_load(j0);
-    p6 = j0;
-    B238:;
+    p5 = j0;
+    B239:;
     j0 = p1;
     j1 = 2072ull;
     j0 += j1;
@@ -40020,18 +40017,18 @@ static void f30(module *self, u64 p0, u64 p1, u64 p2, u64 p3, u64 p4, u64 p5, u6
     i0 = (u32)(j0);
     j0 = i64_load(j0);
     l15 = j0;
-    j1 = p6;
+    j1 = p5;
     j0 += j1;
     i0 = (u32)(j0);
     i1 = l27;
     i32_store(j0, i1);
     j0 = l9;
     i0 = (u32)(j0);
-    j1 = p5;
+    j1 = p6;
     i64_store(j0, j1);
     j0 = l11;
     i0 = (u32)(j0);
-    j1 = p6;
+    j1 = p5;
     j2 = 4ull;
     j1 += j2;
     i64_store(j0, j1);
@@ -40039,14 +40036,14 @@ static void f30(module *self, u64 p0, u64 p1, u64 p2, u64 p3, u64 p4, u64 p5, u6
     i0 = (u32)(j0);
     j1 = l15;
     i64_store(j0, j1);
-    B237:;
+    B238:;
     j0 = p1;
     j1 = 2096ull;
     j0 += j1;
     i0 = (u32)(j0);
     j0 = i64_load(j0);
-    p6 = j0;
-    B236:;
+    p5 = j0;
+    B237:;
     j0 = p1;
     j1 = 57ull;
     j0 += j1;
@@ -40056,65 +40053,65 @@ static void f30(module *self, u64 p0, u64 p1, u64 p2, u64 p3, u64 p4, u64 p5, u6
     i1 &= i2;
     l58 = i1;
     i32_store8(j0, i1);
-    j0 = p6;
+    j0 = p5;
     j1 = 16777216ull;
     i0 = j0 > j1;
-    if (i0) {goto B234;}
+    if (i0) {goto B235;}
     j0 = p1;
     j1 = 2096ull;
     j0 += j1;
     i0 = (u32)(j0);
-    j1 = p6;
+    j1 = p5;
     j2 = 4ull;
     j1 += j2;
-    p6 = j1;
+    p5 = j1;
     i64_store(j0, j1);
-    j0 = p6;
+    j0 = p5;
     j1 = p1;
     j2 = 2104ull;
     j1 += j2;
     i1 = (u32)(j1);
     j1 = i64_load(j1);
     i0 = j0 > j1;
-    if (i0) {goto B239;}
+    if (i0) {goto B240;}
     j0 = p1;
     j1 = 2088ull;
     j0 += j1;
     l9 = j0;
     i0 = (u32)(j0);
     j0 = i64_load(j0);
-    p5 = j0;
+    p6 = j0;
     j1 = p1;
     j2 = 2080ull;
     j1 += j2;
     l11 = j1;
     i1 = (u32)(j1);
     j1 = i64_load(j1);
-    p6 = j1;
+    p5 = j1;
     j0 -= j1;
     j1 = 3ull;
     i0 = j0 > j1;
-    if (i0) {goto B240;}
+    if (i0) {goto B241;}
     j0 = p1;
     j1 = 2072ull;
     j0 += j1;
     j1 = 4ull;
     i0 = f15(self, j0, j1); m = self->memory; if (NEVER(self->is_broken)) return;
     i0 = !(i0);
-    if (i0) {goto B239;}
+    if (i0) {goto B240;}
     j0 = p1;
     j1 = 2088ull;
     j0 += j1;
     i0 = (u32)(j0);
     j0 = i64_load(j0);
-    p5 = j0;
+    p6 = j0;
     j0 = p1;
     j1 = 2080ull;
     j0 += j1;
     i0 = (u32)(j0);
     j0 = i64_load(j0);
-    p6 = j0;
-    B240:;
+    p5 = j0;
+    B241:;
     j0 = p1;
     j1 = 2072ull;
     j0 += j1;
@@ -40122,7 +40119,7 @@ static void f30(module *self, u64 p0, u64 p1, u64 p2, u64 p3, u64 p4, u64 p5, u6
     i0 = (u32)(j0);
     j0 = i64_load(j0);
     l15 = j0;
-    j1 = p6;
+    j1 = p5;
     j0 += j1;
     i0 = (u32)(j0);
     i1 = l59;
@@ -40133,11 +40130,11 @@ static void f30(module *self, u64 p0, u64 p1, u64 p2, u64 p3, u64 p4, u64 p5, u6
     i32_store(j0, i1);
     j0 = l9;
     i0 = (u32)(j0);
-    j1 = p5;
+    j1 = p6;
     i64_store(j0, j1);
     j0 = l11;
     i0 = (u32)(j0);
-    j1 = p6;
+    j1 = p5;
     j2 = 4ull;
     j1 += j2;
     i64_store(j0, j1);
@@ -40145,42 +40142,42 @@ static void f30(module *self, u64 p0, u64 p1, u64 p2, u64 p3, u64 p4, u64 p5, u6
     i0 = (u32)(j0);
     j1 = l15;
     i64_store(j0, j1);
-    B239:;
+    B240:;
     j0 = p1;
     j1 = 57ull;
     j0 += j1;
     i0 = (u32)(j0);
     i0 = i32_load8_u(j0);
     l58 = i0;
-    B234:;
+    B235:;
     i0 = l58;
     i1 = 255u;
     i0 &= i1;
     i1 = 8u;
     i0 = i0 > i1;
-    if (i0) {goto B241;}
+    if (i0) {goto B242;}
     i0 = l59;
     i1 = 32u;
     i0 &= i1;
     i0 = !(i0);
-    if (i0) {goto B242;}
+    if (i0) {goto B243;}
     i0 = l58;
     i1 = 255u;
     i0 &= i1;
     i1 = 5u;
     i0 = i0 == i1;
-    if (i0) {goto B241;}
-    B242:;
+    if (i0) {goto B242;}
+    B243:;
     j0 = l16;
     i1 = l58;
     j1 = (u64)(i1);
     j2 = 255ull;
     j1 &= j2;
-    p6 = j1;
+    p5 = j1;
     j0 += j1;
     i0 = (u32)(j0);
     j1 = l17;
-    j2 = p6;
+    j2 = p5;
     j1 += j2;
     i1 = (u32)(j1);
     i1 = i32_load8_u(j1);
@@ -40196,9 +40193,9 @@ static void f30(module *self, u64 p0, u64 p1, u64 p2, u64 p3, u64 p4, u64 p5, u6
     j0 = p1;
     j1 = 70ull;
     j0 += j1;
-    p6 = j0;
+    p5 = j0;
     i0 = (u32)(j0);
-    j1 = p6;
+    j1 = p5;
     i1 = (u32)(j1);
     i1 = i32_load8_u(j1);
     i2 = 1u;
@@ -40207,9 +40204,9 @@ static void f30(module *self, u64 p0, u64 p1, u64 p2, u64 p3, u64 p4, u64 p5, u6
     j0 = p1;
     j1 = 68ull;
     j0 += j1;
-    p6 = j0;
+    p5 = j0;
     i0 = (u32)(j0);
-    j1 = p6;
+    j1 = p5;
     i1 = (u32)(j1);
     i1 = i32_load8_u(j1);
     i2 = 1u;
@@ -40257,17 +40254,17 @@ static void f30(module *self, u64 p0, u64 p1, u64 p2, u64 p3, u64 p4, u64 p5, u6
     j1 = (u64)(i1);
     j2 = 2ull;
     j1 <<= (j2 & 63);
-    p6 = j1;
+    p5 = j1;
     i1 = (u32)(j1);
-    i1 = i32_load(j1 + 1051784u);
+    i1 = i32_load(j1 + 1051804u);
     i32_store(j0, i1);
     j0 = p1;
     j1 = 60ull;
     j0 += j1;
     i0 = (u32)(j0);
-    j1 = p6;
+    j1 = p5;
     i1 = (u32)(j1);
-    i1 = i32_load(j1 + 1051768u);
+    i1 = i32_load(j1 + 1051788u);
     i32_store(j0, i1);
     j0 = p1;
     j1 = 72ull;
@@ -40305,7 +40302,7 @@ static void f30(module *self, u64 p0, u64 p1, u64 p2, u64 p3, u64 p4, u64 p5, u6
     i2 = !(i2);
     i1 &= i2;
     i32_store8(j0, i1);
-    B241:;
+    B242:;
     i0 = l27;
     i1 = 16777216u;
     i0 += i1;
@@ -40316,7 +40313,7 @@ static void f30(module *self, u64 p0, u64 p1, u64 p2, u64 p3, u64 p4, u64 p5, u6
     l8 = j0;
     j1 = 9ull;
     i0 = j0 != j1;
-    if (i0) {goto L233;}
+    if (i0) {goto L234;}
   i0 = l24;
   i1 = 6u;
   i0 += i1;
@@ -40327,25 +40324,25 @@ static void f30(module *self, u64 p0, u64 p1, u64 p2, u64 p3, u64 p4, u64 p5, u6
   l8 = j0;
   i0 = (u32)(j0);
   j0 = i64_load(j0);
-  p6 = j0;
+  p5 = j0;
   j1 = 16777216ull;
   i0 = j0 > j1;
-  if (i0) {goto B243;}
+  if (i0) {goto B244;}
   j0 = l8;
   i0 = (u32)(j0);
-  j1 = p6;
+  j1 = p5;
   j2 = 3ull;
   j1 += j2;
-  p6 = j1;
+  p5 = j1;
   i64_store(j0, j1);
-  j0 = p6;
+  j0 = p5;
   j1 = p1;
   j2 = 2104ull;
   j1 += j2;
   i1 = (u32)(j1);
   j1 = i64_load(j1);
   i0 = j0 > j1;
-  if (i0) {goto B243;}
+  if (i0) {goto B244;}
   j0 = p1;
   j1 = 2088ull;
   j0 += j1;
@@ -40359,18 +40356,18 @@ static void f30(module *self, u64 p0, u64 p1, u64 p2, u64 p3, u64 p4, u64 p5, u6
   l11 = j1;
   i1 = (u32)(j1);
   j1 = i64_load(j1);
-  p6 = j1;
+  p5 = j1;
   j0 -= j1;
   j1 = 2ull;
   i0 = j0 > j1;
-  if (i0) {goto B244;}
+  if (i0) {goto B245;}
   j0 = p1;
   j1 = 2072ull;
   j0 += j1;
   j1 = 3ull;
   i0 = f15(self, j0, j1); m = self->memory; if (NEVER(self->is_broken)) return;
   i0 = !(i0);
-  if (i0) {goto B243;}
+  if (i0) {goto B244;}
   j0 = p1;
   j1 = 2088ull;
   j0 += j1;
@@ -40382,8 +40379,8 @@ static void f30(module *self, u64 p0, u64 p1, u64 p2, u64 p3, u64 p4, u64 p5, u6
   j0 += j1;
   i0 = (u32)(j0);
   j0 = i64_load(j0);
-  p6 = j0;
-  B244:;
+  p5 = j0;
+  B245:;
   j0 = p1;
   j1 = 2072ull;
   j0 += j1;
@@ -40391,17 +40388,17 @@ static void f30(module *self, u64 p0, u64 p1, u64 p2, u64 p3, u64 p4, u64 p5, u6
   i0 = (u32)(j0);
   j0 = i64_load(j0);
   l15 = j0;
-  j1 = p6;
+  j1 = p5;
   j0 += j1;
-  p5 = j0;
+  p6 = j0;
   i0 = (u32)(j0);
   i1 = 3u;
   i32_store8(j0 + 2, i1);
-  j0 = p5;
+  j0 = p6;
   i0 = (u32)(j0);
   i1 = l58;
   i32_store8(j0 + 1, i1);
-  j0 = p5;
+  j0 = p6;
   i0 = (u32)(j0);
   i1 = 3u;
   i32_store8(j0, i1);
@@ -40411,7 +40408,7 @@ static void f30(module *self, u64 p0, u64 p1, u64 p2, u64 p3, u64 p4, u64 p5, u6
   i64_store(j0, j1);
   j0 = l11;
   i0 = (u32)(j0);
-  j1 = p6;
+  j1 = p5;
   j2 = 3ull;
   j1 += j2;
   i64_store(j0, j1);
@@ -40419,7 +40416,7 @@ static void f30(module *self, u64 p0, u64 p1, u64 p2, u64 p3, u64 p4, u64 p5, u6
   i0 = (u32)(j0);
   j1 = l15;
   i64_store(j0, j1);
-  B243:;
+  B244:;
   j0 = l7;
   j1 = 8ull;
   j0 += j1;
@@ -40516,26 +40513,26 @@ static void f30(module *self, u64 p0, u64 p1, u64 p2, u64 p3, u64 p4, u64 p5, u6
   j0 = l7;
   i0 = (u32)(j0);
   i1 = 0u;
-  i32_store8(j0 + 306, i1);
+  i32_store8(j0 + 314, i1);
   j0 = l7;
   i0 = (u32)(j0);
   i1 = 0u;
-  i32_store16(j0 + 304, i1);
+  i32_store16(j0 + 312, i1);
   j0 = l8;
   i0 = (u32)(j0);
   j0 = i64_load(j0);
   l8 = j0;
   j1 = 16777217ull;
   i0 = j0 < j1;
-  if (i0) {goto B246;}
+  if (i0) {goto B247;}
   j0 = p1;
   j1 = 2002ull;
   j0 += j1;
   i0 = (u32)(j0);
   i1 = 255u;
   i32_store8(j0, i1);
-  goto B245;
-  B246:;
+  goto B246;
+  B247:;
   j0 = p1;
   j1 = 2096ull;
   j0 += j1;
@@ -40552,113 +40549,14 @@ static void f30(module *self, u64 p0, u64 p1, u64 p2, u64 p3, u64 p4, u64 p5, u6
   i1 = (u32)(j1);
   j1 = i64_load(j1);
   i0 = j0 > j1;
-  if (i0) {goto B247;}
-  j0 = p1;
-  j1 = 2088ull;
-  j0 += j1;
-  p5 = j0;
-  i0 = (u32)(j0);
-  j0 = i64_load(j0);
-  p6 = j0;
-  j1 = p1;
-  j2 = 2080ull;
-  j1 += j2;
-  l9 = j1;
-  i1 = (u32)(j1);
-  j1 = i64_load(j1);
-  l8 = j1;
-  j0 -= j1;
-  j1 = 3ull;
-  i0 = j0 > j1;
-  if (i0) {goto B249;}
-  j0 = p1;
-  j1 = 2072ull;
-  j0 += j1;
-  j1 = 4ull;
-  i0 = f15(self, j0, j1); m = self->memory; if (NEVER(self->is_broken)) return;
-  i0 = !(i0);
   if (i0) {goto B248;}
   j0 = p1;
   j1 = 2088ull;
   j0 += j1;
-  i0 = (u32)(j0);
-  j0 = i64_load(j0);
   p6 = j0;
-  j0 = p1;
-  j1 = 2080ull;
-  j0 += j1;
   i0 = (u32)(j0);
   j0 = i64_load(j0);
-  l8 = j0;
-  B249:;
-  j0 = p1;
-  j1 = 2072ull;
-  j0 += j1;
-  l10 = j0;
-  i0 = (u32)(j0);
-  j0 = i64_load(j0);
-  l11 = j0;
-  j1 = l8;
-  j0 += j1;
-  i0 = (u32)(j0);
-  i1 = 4278437377u;
-  i32_store(j0, i1);
-  j0 = p5;
-  i0 = (u32)(j0);
-  j1 = p6;
-  i64_store(j0, j1);
-  j0 = l9;
-  i0 = (u32)(j0);
-  j1 = l8;
-  j2 = 4ull;
-  j1 += j2;
-  i64_store(j0, j1);
-  j0 = l10;
-  i0 = (u32)(j0);
-  j1 = l11;
-  i64_store(j0, j1);
-  B248:;
-  j0 = p1;
-  j1 = 2096ull;
-  j0 += j1;
-  i0 = (u32)(j0);
-  j0 = i64_load(j0);
-  l8 = j0;
-  B247:;
-  j0 = p1;
-  j1 = 2002ull;
-  j0 += j1;
-  i0 = (u32)(j0);
-  i1 = 255u;
-  i32_store8(j0, i1);
-  j0 = l8;
-  j1 = 16777216ull;
-  i0 = j0 > j1;
-  if (i0) {goto B245;}
-  j0 = p1;
-  j1 = 2096ull;
-  j0 += j1;
-  i0 = (u32)(j0);
-  j1 = l8;
-  j2 = 4ull;
-  j1 += j2;
-  l8 = j1;
-  i64_store(j0, j1);
-  j0 = l8;
-  j1 = p1;
-  j2 = 2104ull;
-  j1 += j2;
-  i1 = (u32)(j1);
-  j1 = i64_load(j1);
-  i0 = j0 > j1;
-  if (i0) {goto B245;}
-  j0 = p1;
-  j1 = 2088ull;
-  j0 += j1;
   p5 = j0;
-  i0 = (u32)(j0);
-  j0 = i64_load(j0);
-  p6 = j0;
   j1 = p1;
   j2 = 2080ull;
   j1 += j2;
@@ -40676,13 +40574,13 @@ static void f30(module *self, u64 p0, u64 p1, u64 p2, u64 p3, u64 p4, u64 p5, u6
   j1 = 4ull;
   i0 = f15(self, j0, j1); m = self->memory; if (NEVER(self->is_broken)) return;
   i0 = !(i0);
-  if (i0) {goto B245;}
+  if (i0) {goto B249;}
   j0 = p1;
   j1 = 2088ull;
   j0 += j1;
   i0 = (u32)(j0);
   j0 = i64_load(j0);
-  p6 = j0;
+  p5 = j0;
   j0 = p1;
   j1 = 2080ull;
   j0 += j1;
@@ -40700,11 +40598,11 @@ static void f30(module *self, u64 p0, u64 p1, u64 p2, u64 p3, u64 p4, u64 p5, u6
   j1 = l8;
   j0 += j1;
   i0 = (u32)(j0);
-  i1 = 247809u;
+  i1 = 4278437377u;
   i32_store(j0, i1);
-  j0 = p5;
+  j0 = p6;
   i0 = (u32)(j0);
-  j1 = p6;
+  j1 = p5;
   i64_store(j0, j1);
   j0 = l9;
   i0 = (u32)(j0);
@@ -40716,7 +40614,106 @@ static void f30(module *self, u64 p0, u64 p1, u64 p2, u64 p3, u64 p4, u64 p5, u6
   i0 = (u32)(j0);
   j1 = l11;
   i64_store(j0, j1);
-  B245:;
+  B249:;
+  j0 = p1;
+  j1 = 2096ull;
+  j0 += j1;
+  i0 = (u32)(j0);
+  j0 = i64_load(j0);
+  l8 = j0;
+  B248:;
+  j0 = p1;
+  j1 = 2002ull;
+  j0 += j1;
+  i0 = (u32)(j0);
+  i1 = 255u;
+  i32_store8(j0, i1);
+  j0 = l8;
+  j1 = 16777216ull;
+  i0 = j0 > j1;
+  if (i0) {goto B246;}
+  j0 = p1;
+  j1 = 2096ull;
+  j0 += j1;
+  i0 = (u32)(j0);
+  j1 = l8;
+  j2 = 4ull;
+  j1 += j2;
+  l8 = j1;
+  i64_store(j0, j1);
+  j0 = l8;
+  j1 = p1;
+  j2 = 2104ull;
+  j1 += j2;
+  i1 = (u32)(j1);
+  j1 = i64_load(j1);
+  i0 = j0 > j1;
+  if (i0) {goto B246;}
+  j0 = p1;
+  j1 = 2088ull;
+  j0 += j1;
+  p6 = j0;
+  i0 = (u32)(j0);
+  j0 = i64_load(j0);
+  p5 = j0;
+  j1 = p1;
+  j2 = 2080ull;
+  j1 += j2;
+  l9 = j1;
+  i1 = (u32)(j1);
+  j1 = i64_load(j1);
+  l8 = j1;
+  j0 -= j1;
+  j1 = 3ull;
+  i0 = j0 > j1;
+  if (i0) {goto B251;}
+  j0 = p1;
+  j1 = 2072ull;
+  j0 += j1;
+  j1 = 4ull;
+  i0 = f15(self, j0, j1); m = self->memory; if (NEVER(self->is_broken)) return;
+  i0 = !(i0);
+  if (i0) {goto B246;}
+  j0 = p1;
+  j1 = 2088ull;
+  j0 += j1;
+  i0 = (u32)(j0);
+  j0 = i64_load(j0);
+  p5 = j0;
+  j0 = p1;
+  j1 = 2080ull;
+  j0 += j1;
+  i0 = (u32)(j0);
+  j0 = i64_load(j0);
+  l8 = j0;
+  B251:;
+  j0 = p1;
+  j1 = 2072ull;
+  j0 += j1;
+  l10 = j0;
+  i0 = (u32)(j0);
+  j0 = i64_load(j0);
+  l11 = j0;
+  j1 = l8;
+  j0 += j1;
+  i0 = (u32)(j0);
+  i1 = 247809u;
+  i32_store(j0, i1);
+  j0 = p6;
+  i0 = (u32)(j0);
+  j1 = p5;
+  i64_store(j0, j1);
+  j0 = l9;
+  i0 = (u32)(j0);
+  j1 = l8;
+  j2 = 4ull;
+  j1 += j2;
+  i64_store(j0, j1);
+  j0 = l10;
+  i0 = (u32)(j0);
+  j1 = l11;
+  i64_store(j0, j1);
+  B246:;
   i0 = 0u;
   l58 = i0;
   j0 = p1;
@@ -40728,7 +40725,7 @@ static void f30(module *self, u64 p0, u64 p1, u64 p2, u64 p3, u64 p4, u64 p5, u6
   j0 = p1;
   j1 = 974ull;
   j0 += j1;
-  p5 = j0;
+  p6 = j0;
   j0 = p1;
   j1 = 718ull;
   j0 += j1;
@@ -40741,9 +40738,9 @@ static void f30(module *self, u64 p0, u64 p1, u64 p2, u64 p3, u64 p4, u64 p5, u6
   j1 = 206ull;
   j0 += j1;
   l11 = j0;
-  L251: 
+  L252: 
     j0 = l7;
-    j1 = 304ull;
+    j1 = 312ull;
     j0 += j1;
     i1 = l73;
     i2 = l58;
@@ -40751,15 +40748,15 @@ static void f30(module *self, u64 p0, u64 p1, u64 p2, u64 p3, u64 p4, u64 p5, u6
     f48(self, j0, i1, i2); if (NEVER(self->is_broken)) return;
     j0 = l7;
     i0 = (u32)(j0);
-    i0 = i32_load8_u(j0 + 306u);
+    i0 = i32_load8_u(j0 + 314u);
     l18 = i0;
     j0 = l7;
     i0 = (u32)(j0);
-    i0 = i32_load8_u(j0 + 305u);
+    i0 = i32_load8_u(j0 + 313u);
     l21 = i0;
     j0 = l7;
     i0 = (u32)(j0);
-    i0 = i32_load8_u(j0 + 304u);
+    i0 = i32_load8_u(j0 + 312u);
     l58 = i0;
     j0 = p1;
     j1 = 2096ull;
@@ -40767,32 +40764,32 @@ static void f30(module *self, u64 p0, u64 p1, u64 p2, u64 p3, u64 p4, u64 p5, u6
     l8 = j0;
     i0 = (u32)(j0);
     j0 = i64_load(j0);
-    p6 = j0;
+    p5 = j0;
     j1 = 16777216ull;
     i0 = j0 > j1;
-    if (i0) {goto B252;}
+    if (i0) {goto B253;}
     j0 = l8;
     i0 = (u32)(j0);
-    j1 = p6;
+    j1 = p5;
     j2 = 4ull;
     j1 += j2;
-    p6 = j1;
+    p5 = j1;
     i64_store(j0, j1);
-    j0 = p6;
+    j0 = p5;
     j1 = p1;
     j2 = 2104ull;
     j1 += j2;
     i1 = (u32)(j1);
     j1 = i64_load(j1);
     i0 = j0 > j1;
-    if (i0) {goto B252;}
+    if (i0) {goto B253;}
     j0 = p1;
     j1 = 2088ull;
     j0 += j1;
     l12 = j0;
     i0 = (u32)(j0);
     j0 = i64_load(j0);
-    p6 = j0;
+    p5 = j0;
     j1 = p1;
     j2 = 2080ull;
     j1 += j2;
@@ -40803,27 +40800,27 @@ static void f30(module *self, u64 p0, u64 p1, u64 p2, u64 p3, u64 p4, u64 p5, u6
     j0 -= j1;
     j1 = 3ull;
     i0 = j0 > j1;
-    if (i0) {goto B253;}
+    if (i0) {goto B254;}
     j0 = p1;
     j1 = 2072ull;
     j0 += j1;
     j1 = 4ull;
     i0 = f15(self, j0, j1); m = self->memory; if (NEVER(self->is_broken)) return;
     i0 = !(i0);
-    if (i0) {goto B252;}
+    if (i0) {goto B253;}
     j0 = p1;
     j1 = 2088ull;
     j0 += j1;
     i0 = (u32)(j0);
     j0 = i64_load(j0);
-    p6 = j0;
+    p5 = j0;
     j0 = p1;
     j1 = 2080ull;
     j0 += j1;
     i0 = (u32)(j0);
     j0 = i64_load(j0);
     l8 = j0;
-    B253:;
+    B254:;
     j0 = p1;
     j1 = 2072ull;
     j0 += j1;
@@ -40842,7 +40839,7 @@ static void f30(module *self, u64 p0, u64 p1, u64 p2, u64 p3, u64 p4, u64 p5, u6
     i32_store(j0, i1);
     j0 = l12;
     i0 = (u32)(j0);
-    j1 = p6;
+    j1 = p5;
     i64_store(j0, j1);
     j0 = l15;
     i0 = (u32)(j0);
@@ -40854,7 +40851,7 @@ static void f30(module *self, u64 p0, u64 p1, u64 p2, u64 p3, u64 p4, u64 p5, u6
     i0 = (u32)(j0);
     j1 = l17;
     i64_store(j0, j1);
-    B252:;
+    B253:;
     i0 = l58;
     i1 = 63u;
     i0 &= i1;
@@ -40866,12 +40863,12 @@ static void f30(module *self, u64 p0, u64 p1, u64 p2, u64 p3, u64 p4, u64 p5, u6
     j0 = i64_load8_u(j0);
     i0 = (u32)(j0);
     switch (i0) {
-      case 0: goto B257;
-      case 1: goto B255;
-      case 2: goto B256;
-      default: goto B257;
+      case 0: goto B258;
+      case 1: goto B256;
+      case 2: goto B257;
+      default: goto B258;
     }
-    B257:;
+    B258:;
     j0 = p1;
     j1 = 2000ull;
     j0 += j1;
@@ -40880,8 +40877,8 @@ static void f30(module *self, u64 p0, u64 p1, u64 p2, u64 p3, u64 p4, u64 p5, u6
     i32_store8(j0, i1);
     i0 = 1u;
     l58 = i0;
-    goto B254;
-    B256:;
+    goto B255;
+    B257:;
     j0 = p1;
     j1 = 1998ull;
     j0 += j1;
@@ -40928,7 +40925,7 @@ static void f30(module *self, u64 p0, u64 p1, u64 p2, u64 p3, u64 p4, u64 p5, u6
     i32_store8(j0, i1);
     i0 = 0u;
     l58 = i0;
-    j0 = p5;
+    j0 = p6;
     j1 = l8;
     j2 = 2ull;
     j1 <<= (j2 & 63);
@@ -40949,8 +40946,8 @@ static void f30(module *self, u64 p0, u64 p1, u64 p2, u64 p3, u64 p4, u64 p5, u6
     i0 = (u32)(j0);
     i1 = l28;
     i32_store8(j0, i1);
-    goto B254;
-    B255:;
+    goto B255;
+    B256:;
     j0 = p1;
     j1 = 2001ull;
     j0 += j1;
@@ -40959,7 +40956,7 @@ static void f30(module *self, u64 p0, u64 p1, u64 p2, u64 p3, u64 p4, u64 p5, u6
     i32_store8(j0, i1);
     i0 = 2u;
     l58 = i0;
-    B254:;
+    B255:;
     j0 = p1;
     j1 = 1999ull;
     j0 += j1;
@@ -40972,32 +40969,32 @@ static void f30(module *self, u64 p0, u64 p1, u64 p2, u64 p3, u64 p4, u64 p5, u6
     l8 = j0;
     i0 = (u32)(j0);
     j0 = i64_load(j0);
-    p6 = j0;
+    p5 = j0;
     j1 = 16777216ull;
     i0 = j0 > j1;
-    if (i0) {goto B258;}
+    if (i0) {goto B259;}
     j0 = l8;
     i0 = (u32)(j0);
-    j1 = p6;
+    j1 = p5;
     j2 = 4ull;
     j1 += j2;
-    p6 = j1;
+    p5 = j1;
     i64_store(j0, j1);
-    j0 = p6;
+    j0 = p5;
     j1 = p1;
     j2 = 2104ull;
     j1 += j2;
     i1 = (u32)(j1);
     j1 = i64_load(j1);
     i0 = j0 > j1;
-    if (i0) {goto B259;}
+    if (i0) {goto B260;}
     j0 = p1;
     j1 = 2088ull;
     j0 += j1;
     l12 = j0;
     i0 = (u32)(j0);
     j0 = i64_load(j0);
-    p6 = j0;
+    p5 = j0;
     j1 = p1;
     j2 = 2080ull;
     j1 += j2;
@@ -41008,27 +41005,27 @@ static void f30(module *self, u64 p0, u64 p1, u64 p2, u64 p3, u64 p4, u64 p5, u6
     j0 -= j1;
     j1 = 3ull;
     i0 = j0 > j1;
-    if (i0) {goto B260;}
+    if (i0) {goto B261;}
     j0 = p1;
     j1 = 2072ull;
     j0 += j1;
     j1 = 4ull;
     i0 = f15(self, j0, j1); m = self->memory; if (NEVER(self->is_broken)) return;
     i0 = !(i0);
-    if (i0) {goto B259;}
+    if (i0) {goto B260;}
     j0 = p1;
     j1 = 2088ull;
     j0 += j1;
     i0 = (u32)(j0);
     j0 = i64_load(j0);
-    p6 = j0;
+    p5 = j0;
     j0 = p1;
     j1 = 2080ull;
     j0 += j1;
     i0 = (u32)(j0);
     j0 = i64_load(j0);
     l8 = j0;
-    B260:;
+    B261:;
     j0 = p1;
     j1 = 2072ull;
     j0 += j1;
@@ -41047,7 +41044,7 @@ static void f30(module *self, u64 p0, u64 p1, u64 p2, u64 p3, u64 p4, u64 p5, u6
     i32_store(j0, i1);
     j0 = l12;
     i0 = (u32)(j0);
-    j1 = p6;
+    j1 = p5;
     i64_store(j0, j1);
     j0 = l15;
     i0 = (u32)(j0);
@@ -41059,14 +41056,14 @@ static void f30(module *self, u64 p0, u64 p1, u64 p2, u64 p3, u64 p4, u64 p5, u6
     i0 = (u32)(j0);
     j1 = l17;
     i64_store(j0, j1);
-    B259:;
+    B260:;
     j0 = p1;
     j1 = 1999ull;
     j0 += j1;
     i0 = (u32)(j0);
     i0 = i32_load8_u(j0);
     l58 = i0;
-    B258:;
+    B259:;
     i0 = l21;
     i1 = 63u;
     i0 &= i1;
@@ -41077,12 +41074,12 @@ static void f30(module *self, u64 p0, u64 p1, u64 p2, u64 p3, u64 p4, u64 p5, u6
     j0 &= j1;
     i0 = (u32)(j0);
     switch (i0) {
-      case 0: goto B264;
-      case 1: goto B262;
-      case 2: goto B263;
-      default: goto B264;
+      case 0: goto B265;
+      case 1: goto B263;
+      case 2: goto B264;
+      default: goto B265;
     }
-    B264:;
+    B265:;
     j0 = p1;
     j1 = 2000ull;
     j0 += j1;
@@ -41091,8 +41088,8 @@ static void f30(module *self, u64 p0, u64 p1, u64 p2, u64 p3, u64 p4, u64 p5, u6
     i32_store8(j0, i1);
     i0 = 1u;
     l58 = i0;
-    goto B261;
-    B263:;
+    goto B262;
+    B264:;
     j0 = p1;
     j1 = 1998ull;
     j0 += j1;
@@ -41139,7 +41136,7 @@ static void f30(module *self, u64 p0, u64 p1, u64 p2, u64 p3, u64 p4, u64 p5, u6
     i32_store8(j0, i1);
     i0 = 0u;
     l58 = i0;
-    j0 = p5;
+    j0 = p6;
     j1 = l8;
     j2 = 2ull;
     j1 <<= (j2 & 63);
@@ -41160,8 +41157,8 @@ static void f30(module *self, u64 p0, u64 p1, u64 p2, u64 p3, u64 p4, u64 p5, u6
     i0 = (u32)(j0);
     i1 = l21;
     i32_store8(j0, i1);
-    goto B261;
-    B262:;
+    goto B262;
+    B263:;
     j0 = p1;
     j1 = 2001ull;
     j0 += j1;
@@ -41170,7 +41167,7 @@ static void f30(module *self, u64 p0, u64 p1, u64 p2, u64 p3, u64 p4, u64 p5, u6
     i32_store8(j0, i1);
     i0 = 2u;
     l58 = i0;
-    B261:;
+    B262:;
     j0 = p1;
     j1 = 1999ull;
     j0 += j1;
@@ -41183,32 +41180,32 @@ static void f30(module *self, u64 p0, u64 p1, u64 p2, u64 p3, u64 p4, u64 p5, u6
     l8 = j0;
     i0 = (u32)(j0);
     j0 = i64_load(j0);
-    p6 = j0;
+    p5 = j0;
     j1 = 16777216ull;
     i0 = j0 > j1;
-    if (i0) {goto B265;}
+    if (i0) {goto B266;}
     j0 = l8;
     i0 = (u32)(j0);
-    j1 = p6;
+    j1 = p5;
     j2 = 4ull;
     j1 += j2;
-    p6 = j1;
+    p5 = j1;
     i64_store(j0, j1);
-    j0 = p6;
+    j0 = p5;
     j1 = p1;
     j2 = 2104ull;
     j1 += j2;
     i1 = (u32)(j1);
     j1 = i64_load(j1);
     i0 = j0 > j1;
-    if (i0) {goto B266;}
+    if (i0) {goto B267;}
     j0 = p1;
     j1 = 2088ull;
     j0 += j1;
     l12 = j0;
     i0 = (u32)(j0);
     j0 = i64_load(j0);
-    p6 = j0;
+    p5 = j0;
     j1 = p1;
     j2 = 2080ull;
     j1 += j2;
@@ -41219,27 +41216,27 @@ static void f30(module *self, u64 p0, u64 p1, u64 p2, u64 p3, u64 p4, u64 p5, u6
     j0 -= j1;
     j1 = 3ull;
     i0 = j0 > j1;
-    if (i0) {goto B267;}
+    if (i0) {goto B268;}
     j0 = p1;
     j1 = 2072ull;
     j0 += j1;
     j1 = 4ull;
     i0 = f15(self, j0, j1); m = self->memory; if (NEVER(self->is_broken)) return;
     i0 = !(i0);
-    if (i0) {goto B266;}
+    if (i0) {goto B267;}
     j0 = p1;
     j1 = 2088ull;
     j0 += j1;
     i0 = (u32)(j0);
     j0 = i64_load(j0);
-    p6 = j0;
+    p5 = j0;
     j0 = p1;
     j1 = 2080ull;
     j0 += j1;
     i0 = (u32)(j0);
     j0 = i64_load(j0);
     l8 = j0;
-    B267:;
+    B268:;
     j0 = p1;
     j1 = 2072ull;
     j0 += j1;
@@ -41258,7 +41255,7 @@ static void f30(module *self, u64 p0, u64 p1, u64 p2, u64 p3, u64 p4, u64 p5, u6
     i32_store(j0, i1);
     j0 = l12;
     i0 = (u32)(j0);
-    j1 = p6;
+    j1 = p5;
     i64_store(j0, j1);
     j0 = l15;
     i0 = (u32)(j0);
@@ -41270,14 +41267,14 @@ static void f30(module *self, u64 p0, u64 p1, u64 p2, u64 p3, u64 p4, u64 p5, u6
     i0 = (u32)(j0);
     j1 = l17;
     i64_store(j0, j1);
-    B266:;
+    B267:;
     j0 = p1;
     j1 = 1999ull;
     j0 += j1;
     i0 = (u32)(j0);
     i0 = i32_load8_u(j0);
     l58 = i0;
-    B265:;
+    B266:;
     i0 = l18;
     i1 = 63u;
     i0 &= i1;
@@ -41288,12 +41285,12 @@ static void f30(module *self, u64 p0, u64 p1, u64 p2, u64 p3, u64 p4, u64 p5, u6
     j0 &= j1;
     i0 = (u32)(j0);
     switch (i0) {
-      case 0: goto B271;
-      case 1: goto B269;
-      case 2: goto B270;
-      default: goto B271;
+      case 0: goto B272;
+      case 1: goto B270;
+      case 2: goto B271;
+      default: goto B272;
     }
-    B271:;
+    B272:;
     j0 = p1;
     j1 = 2000ull;
     j0 += j1;
@@ -41302,8 +41299,8 @@ static void f30(module *self, u64 p0, u64 p1, u64 p2, u64 p3, u64 p4, u64 p5, u6
     i32_store8(j0, i1);
     i0 = 1u;
     l58 = i0;
-    goto B268;
-    B270:;
+    goto B269;
+    B271:;
     j0 = p1;
     j1 = 1998ull;
     j0 += j1;
@@ -41350,7 +41347,7 @@ static void f30(module *self, u64 p0, u64 p1, u64 p2, u64 p3, u64 p4, u64 p5, u6
     i32_store8(j0, i1);
     i0 = 0u;
     l58 = i0;
-    j0 = p5;
+    j0 = p6;
     j1 = l8;
     j2 = 2ull;
     j1 <<= (j2 & 63);
@@ -41371,8 +41368,8 @@ static void f30(module *self, u64 p0, u64 p1, u64 p2, u64 p3, u64 p4, u64 p5, u6
     i0 = (u32)(j0);
     i1 = l18;
     i32_store8(j0, i1);
-    goto B268;
-    B269:;
+    goto B269;
+    B270:;
     j0 = p1;
     j1 = 2001ull;
     j0 += j1;
@@ -41381,7 +41378,7 @@ static void f30(module *self, u64 p0, u64 p1, u64 p2, u64 p3, u64 p4, u64 p5, u6
     i32_store8(j0, i1);
     i0 = 2u;
     l58 = i0;
-    B268:;
+    B269:;
     j0 = p1;
     j1 = 1999ull;
     j0 += j1;
@@ -41397,10 +41394,10 @@ static void f30(module *self, u64 p0, u64 p1, u64 p2, u64 p3, u64 p4, u64 p5, u6
     i0 &= i1;
     i1 = 255u;
     i0 = i0 < i1;
-    if (i0) {goto L251;}
+    if (i0) {goto L252;}
   i0 = l71;
   i0 = !(i0);
-  if (i0) {goto B273;}
+  if (i0) {goto B274;}
   j0 = 1099511627792ull;
   j1 = p1;
   j2 = p3;
@@ -41410,10 +41407,10 @@ static void f30(module *self, u64 p0, u64 p1, u64 p2, u64 p3, u64 p4, u64 p5, u6
   i0 = l20;
   i1 = 1u;
   i0 &= i1;
-  if (i0) {goto B272;}
+  if (i0) {goto B273;}
   i0 = 0u;
   l58 = i0;
-  L274: 
+  L275: 
     j0 = p1;
     i1 = l22;
     i2 = l58;
@@ -41431,17 +41428,17 @@ static void f30(module *self, u64 p0, u64 p1, u64 p2, u64 p3, u64 p4, u64 p5, u6
     l58 = i0;
     i1 = 32768u;
     i0 = i0 != i1;
-    if (i0) {goto L274;}
-    goto B272;
+    if (i0) {goto L275;}
+    goto B273;
   { self->is_broken = true; return; }
-  B273:;
+  B274:;
   i0 = l20;
   i1 = 1u;
   i0 &= i1;
-  if (i0) {goto B272;}
+  if (i0) {goto B273;}
   i0 = 655360u;
   l58 = i0;
-  L275: 
+  L276: 
     j0 = p1;
     i1 = l58;
     i2 = 0u;
@@ -41452,8 +41449,8 @@ static void f30(module *self, u64 p0, u64 p1, u64 p2, u64 p3, u64 p4, u64 p5, u6
     l58 = i0;
     i1 = 720896u;
     i0 = i0 != i1;
-    if (i0) {goto L275;}
-  B272:;
+    if (i0) {goto L276;}
+  B273:;
   j0 = p2;
   i0 = (u32)(j0);
   j1 = 0ull;
@@ -41571,7 +41568,7 @@ static void f30(module *self, u64 p0, u64 p1, u64 p2, u64 p3, u64 p4, u64 p5, u6
   i64_store(j0, j1);
   B0:;
   j0 = l7;
-  j1 = 320ull;
+  j1 = 336ull;
   j0 += j1;
   self->g0 = j0;
 }
@@ -44254,7 +44251,7 @@ static void f34(module *self, u64 p0, u32 p1, u32 p2) {
   j1 = 65535ull;
   j0 &= j1;
   i0 = (u32)(j0);
-  i0 = i32_load8_u(j0 + 1052008u);
+  i0 = i32_load8_u(j0 + 1052032u);
   l11 = i0;
   B3:;
   j0 = l3;
@@ -44730,89 +44727,90 @@ static void f35(module *self, u64 p0, u64 p1, u64 p2) {
 }
 
 static void f36(module *self, u64 p0, u64 p1, u64 p2, u64 p3) {
-  u32 l7 = 0, l8 = 0, l9 = 0, l10 = 0, l11 = 0, l12 = 0, l13 = 0, l14 = 0, 
-      l15 = 0;
-  u64 l4 = 0, l5 = 0, l6 = 0;
+  u32 l8 = 0, l9 = 0, l10 = 0, l11 = 0, l12 = 0, l13 = 0, l14 = 0, l15 = 0, 
+      l16 = 0, l17 = 0, l18 = 0;
+  u64 l4 = 0, l5 = 0, l6 = 0, l7 = 0;
   u8 *m = self->memory;
-  u32 i0, i1, i2, i3, i4, i5;
-  u64 j0, j1, j2, j3, j4, j5;
+  u32 i0, i1, i2, i3, i4;
+  u64 j0, j1, j2, j3;
   j0 = self->g0;
   j1 = 96ull;
   j0 -= j1;
   l4 = j0;
   self->g0 = j0;
-  j0 = p1;
-  j1 = 1ull;
-  j0 += j1;
-  i0 = (u32)(j0);
-  i0 = i32_load8_u(j0);
-  l7 = i0;
   j0 = p2;
   j1 = 30ull;
   j0 += j1;
   i0 = (u32)(j0);
   i0 = i32_load8_u(j0);
   l8 = i0;
+  i1 = 1u;
+  i0 += i1;
+  l9 = i0;
   j0 = p1;
-  j1 = 10ull;
+  j1 = 1ull;
   j0 += j1;
   i0 = (u32)(j0);
   i0 = i32_load8_u(j0);
-  l9 = i0;
-  j0 = p1;
-  j1 = 8ull;
-  j0 += j1;
-  i0 = (u32)(j0);
-  j0 = i64_load16_u(j0);
-  l5 = j0;
+  l10 = i0;
   j0 = p1;
   j1 = 4ull;
   j0 += j1;
   i0 = (u32)(j0);
   i0 = i32_load16_u(j0);
-  l10 = i0;
+  l11 = i0;
   j0 = p1;
   j1 = 2ull;
   j0 += j1;
   i0 = (u32)(j0);
   i0 = i32_load16_u(j0);
-  l11 = i0;
+  l12 = i0;
   j0 = p1;
   j1 = 6ull;
   j0 += j1;
   i0 = (u32)(j0);
   i0 = i32_load16_u(j0);
-  l12 = i0;
+  l13 = i0;
   j0 = (u64)(i0);
+  l5 = j0;
+  j0 = 0ull;
   l6 = j0;
   i0 = 0u;
-  l13 = i0;
-  i0 = 0u;
   l14 = i0;
+  i0 = 0u;
+  l15 = i0;
+  i0 = 0u;
+  l16 = i0;
+  i0 = 0u;
+  l17 = i0;
+  i0 = 0u;
+  l18 = i0;
+  j0 = 0ull;
+  l7 = j0;
   j0 = p1;
   i0 = (u32)(j0);
-  i0 = i32_load8_u(j0);
-  l15 = i0;
+  j0 = i64_load8_u(j0);
+  i0 = (u32)(j0);
   switch (i0) {
-    case 0: goto B5;
-    case 1: goto B6;
-    case 2: goto B6;
-    case 3: goto B6;
-    case 4: goto B5;
-    case 5: goto B5;
-    case 6: goto B13;
-    case 7: goto B12;
-    case 8: goto B9;
-    case 9: goto B9;
-    case 10: goto B8;
-    case 11: goto B5;
-    case 12: goto B10;
-    case 13: goto B5;
-    case 14: goto B11;
-    case 15: goto B5;
-    default: goto B5;
+    case 0: goto B0;
+    case 1: goto B21;
+    case 2: goto B20;
+    case 3: goto B19;
+    case 4: goto B0;
+    case 5: goto B0;
+    case 6: goto B18;
+    case 7: goto B17;
+    case 8: goto B16;
+    case 9: goto B15;
+    case 10: goto B14;
+    case 11: goto B0;
+    case 12: goto B12;
+    case 13: goto B0;
+    case 14: goto B13;
+    case 15: goto B0;
+    default: goto B0;
   }
-  B13:;
+  B21:;
   j0 = l4;
   j1 = 8ull;
   j0 += j1;
@@ -44827,63 +44825,28 @@ static void f36(module *self, u64 p0, u64 p1, u64 p2, u64 p3) {
   f25(self, j0, i1, i2);
   i0 = 1u;
   l14 = i0;
-  i0 = 6u;
-  l13 = i0;
-  j0 = l4;
-  i0 = (u32)(j0);
-  i0 = i32_load8_u(j0 + 8u);
-  i1 = 1u;
-  i0 = i0 != i1;
-  if (i0) {goto B3;}
-  j0 = l4;
-  i0 = (u32)(j0);
-  i0 = i32_load8_u(j0 + 78u);
+  i0 = 0u;
+  l18 = i0;
+  i0 = l10;
   i1 = 255u;
   i0 &= i1;
-  i1 = l7;
-  i2 = 255u;
-  i1 &= i2;
-  i0 = i0 <= i1;
-  if (i0) {goto B3;}
-  i0 = 7u;
-  i1 = 0u;
-  j2 = p2;
-  i3 = l7;
-  j3 = (u64)(i3);
-  j4 = 255ull;
-  j3 &= j4;
-  j4 = 1ull;
-  j3 <<= (j4 & 63);
-  j2 += j3;
-  j3 = 8ull;
-  j2 += j3;
-  i2 = (u32)(j2);
-  i2 = i32_load16_u(j2);
-  l14 = i2;
-  i3 = 8u;
-  i2 >>= (i3 & 31);
-  j3 = p2;
-  j4 = 2ull;
-  j3 += j4;
+  j1 = l4;
+  i1 = (u32)(j1);
+  i1 = i32_load8_u(j1 + 78u);
+  i2 = 0u;
+  j3 = l4;
   i3 = (u32)(j3);
-  i3 = i32_load16_u(j3);
-  l13 = i3;
-  i2 *= i3;
-  i3 = l14;
-  i4 = 255u;
-  i3 &= i4;
-  i2 += i3;
-  i3 = l8;
+  i3 = i32_load8_u(j3 + 8u);
   i4 = 1u;
-  i3 += i4;
-  i4 = l13;
-  i3 *= i4;
-  i2 = i2 >= i3;
-  l14 = i2;
-  i0 = i2 ? i0 : i1;
-  l13 = i0;
-  goto B3;
-  B12:;
+  i3 = i3 == i4;
+  i1 = i3 ? i1 : i2;
+  i2 = 255u;
+  i1 &= i2;
+  l17 = i1;
+  i0 = i0 < i1;
+  if (i0) {goto B8;}
+  goto B1;
+  B20:;
   j0 = l4;
   j1 = 8ull;
   j0 += j1;
@@ -44898,30 +44861,184 @@ static void f36(module *self, u64 p0, u64 p1, u64 p2, u64 p3) {
   f25(self, j0, i1, i2);
   i0 = 1u;
   l14 = i0;
-  i0 = 6u;
-  l13 = i0;
+  i0 = 0u;
+  l18 = i0;
+  i0 = l10;
+  i1 = 255u;
+  i0 &= i1;
+  j1 = l4;
+  i1 = (u32)(j1);
+  i1 = i32_load8_u(j1 + 78u);
+  i2 = 0u;
+  j3 = l4;
+  i3 = (u32)(j3);
+  i3 = i32_load8_u(j3 + 8u);
+  i4 = 1u;
+  i3 = i3 == i4;
+  i1 = i3 ? i1 : i2;
+  i2 = 255u;
+  i1 &= i2;
+  l17 = i1;
+  i0 = i0 >= i1;
+  if (i0) {goto B1;}
+  goto B8;
+  B19:;
   j0 = l4;
+  j1 = 8ull;
+  j0 += j1;
+  j1 = p2;
+  i1 = (u32)(j1);
+  i1 = i32_load8_u(j1);
+  j2 = p2;
+  j3 = 32ull;
+  j2 += j3;
+  i2 = (u32)(j2);
+  i2 = i32_load16_u(j2);
+  f25(self, j0, i1, i2);
+  i0 = 1u;
+  l14 = i0;
+  i0 = 0u;
+  l18 = i0;
+  i0 = l10;
+  i1 = 255u;
+  i0 &= i1;
+  j1 = l4;
+  i1 = (u32)(j1);
+  i1 = i32_load8_u(j1 + 78u);
+  i2 = 0u;
+  j3 = l4;
+  i3 = (u32)(j3);
+  i3 = i32_load8_u(j3 + 8u);
+  i4 = 1u;
+  i3 = i3 == i4;
+  i1 = i3 ? i1 : i2;
+  i2 = 255u;
+  i1 &= i2;
+  l17 = i1;
+  i0 = i0 >= i1;
+  if (i0) {goto B1;}
+  goto B8;
+  B18:;
+  j0 = l4;
+  j1 = 8ull;
+  j0 += j1;
+  j1 = p2;
+  i1 = (u32)(j1);
+  i1 = i32_load8_u(j1);
+  j2 = p2;
+  j3 = 32ull;
+  j2 += j3;
+  i2 = (u32)(j2);
+  i2 = i32_load16_u(j2);
+  f25(self, j0, i1, i2);
+  i0 = 1u;
+  l14 = i0;
+  i0 = 0u;
+  l18 = i0;
+  i0 = l10;
+  i1 = 255u;
+  i0 &= i1;
+  j1 = l4;
+  i1 = (u32)(j1);
+  i1 = i32_load8_u(j1 + 78u);
+  i2 = 0u;
+  j3 = l4;
+  i3 = (u32)(j3);
+  i3 = i32_load8_u(j3 + 8u);
+  i4 = 1u;
+  i3 = i3 == i4;
+  i1 = i3 ? i1 : i2;
+  i2 = 255u;
+  i1 &= i2;
+  l17 = i1;
+  i0 = i0 >= i1;
+  if (i0) {goto B1;}
+  i0 = 1u;
+  l14 = i0;
+  j0 = p2;
+  i1 = l10;
+  j1 = (u64)(i1);
+  j2 = 255ull;
+  j1 &= j2;
+  j2 = 1ull;
+  j1 <<= (j2 & 63);
+  j0 += j1;
+  j1 = 8ull;
+  j0 += j1;
   i0 = (u32)(j0);
-  i0 = i32_load8_u(j0 + 8u);
-  i1 = 1u;
-  i0 = i0 != i1;
-  if (i0) {goto B3;}
+  i0 = i32_load16_u(j0);
+  l17 = i0;
+  i1 = 8u;
+  i0 >>= (i1 & 31);
+  j1 = p2;
+  j2 = 2ull;
+  j1 += j2;
+  i1 = (u32)(j1);
+  i1 = i32_load16_u(j1);
+  l16 = i1;
+  i0 *= i1;
+  i1 = l17;
+  i2 = 255u;
+  i1 &= i2;
+  i0 += i1;
+  l18 = i0;
+  i1 = l8;
+  i2 = 1u;
+  i1 += i2;
+  i2 = l16;
+  i1 *= i2;
+  l17 = i1;
+  i0 = i0 < i1;
+  if (i0) {goto B8;}
+  i0 = l17;
+  j0 = (u64)(i0);
+  l7 = j0;
+  i0 = 0u;
+  l17 = i0;
+  i0 = 6u;
+  l15 = i0;
+  i0 = l10;
+  l16 = i0;
+  goto B0;
+  B17:;
+  j0 = l4;
+  j1 = 8ull;
+  j0 += j1;
+  j1 = p2;
+  i1 = (u32)(j1);
+  i1 = i32_load8_u(j1);
+  j2 = p2;
+  j3 = 32ull;
+  j2 += j3;
+  i2 = (u32)(j2);
+  i2 = i32_load16_u(j2);
+  f25(self, j0, i1, i2);
+  i0 = 1u;
+  l14 = i0;
+  i0 = 0u;
+  l18 = i0;
   j0 = l4;
   i0 = (u32)(j0);
   i0 = i32_load8_u(j0 + 78u);
+  i1 = 0u;
+  j2 = l4;
+  i2 = (u32)(j2);
+  i2 = i32_load8_u(j2 + 8u);
+  i3 = 1u;
+  i2 = i2 == i3;
+  i0 = i2 ? i0 : i1;
   i1 = 255u;
   i0 &= i1;
-  i1 = l11;
+  l17 = i0;
+  i1 = l12;
   i2 = 255u;
   i1 &= i2;
   i0 = i0 <= i1;
-  if (i0) {goto B3;}
+  if (i0) {goto B23;}
   i0 = 1u;
   l14 = i0;
-  i0 = 7u;
-  l13 = i0;
   j0 = p2;
-  i1 = l11;
+  i1 = l12;
   i2 = 1u;
   i1 <<= (i2 & 31);
   i2 = 510u;
@@ -44932,7 +45049,7 @@ static void f36(module *self, u64 p0, u64 p1, u64 p2, u64 p3) {
   j0 += j1;
   i0 = (u32)(j0);
   i0 = i32_load16_u(j0);
-  l15 = i0;
+  l17 = i0;
   i1 = 8u;
   i0 >>= (i1 & 31);
   j1 = p2;
@@ -44940,268 +45057,264 @@ static void f36(module *self, u64 p0, u64 p1, u64 p2, u64 p3) {
   j1 += j2;
   i1 = (u32)(j1);
   i1 = i32_load16_u(j1);
-  l11 = i1;
+  l16 = i1;
   i0 *= i1;
-  i1 = l15;
+  i1 = l17;
   i2 = 255u;
   i1 &= i2;
   i0 += i1;
-  l15 = i0;
+  l18 = i0;
   i1 = l8;
   i2 = 1u;
   i1 += i2;
-  i2 = l11;
+  i2 = l16;
   i1 *= i2;
-  l11 = i1;
+  l17 = i1;
   i0 = i0 >= i1;
-  if (i0) {goto B3;}
-  i0 = 8u;
-  i1 = 0u;
-  i2 = l15;
-  j2 = (u64)(i2);
-  j3 = l6;
-  j2 += j3;
-  i3 = l11;
-  j3 = (u64)(i3);
-  i2 = j2 > j3;
-  l14 = i2;
-  i0 = i2 ? i0 : i1;
-  l13 = i0;
-  goto B3;
-  B11:;
-  j0 = l4;
-  j1 = 8ull;
-  j0 += j1;
-  j1 = p2;
-  i1 = (u32)(j1);
-  i1 = i32_load8_u(j1);
-  j2 = p2;
-  j3 = 32ull;
-  j2 += j3;
-  i2 = (u32)(j2);
-  i2 = i32_load16_u(j2);
-  f25(self, j0, i1, i2);
-  i0 = 1u;
-  l14 = i0;
-  i0 = 6u;
-  l13 = i0;
-  j0 = l4;
-  i0 = (u32)(j0);
-  i0 = i32_load8_u(j0 + 8u);
-  i1 = 1u;
-  i0 = i0 != i1;
-  if (i0) {goto B2;}
-  j0 = l4;
-  i0 = (u32)(j0);
-  i0 = i32_load8_u(j0 + 78u);
-  i1 = 255u;
-  i0 &= i1;
-  i1 = l11;
-  i2 = 255u;
-  i1 &= i2;
-  i0 = i0 <= i1;
-  if (i0) {goto B2;}
-  i0 = 7u;
-  i1 = 0u;
-  i2 = l10;
-  i3 = 8u;
-  i2 >>= (i3 & 31);
-  i3 = l8;
-  i2 = i2 > i3;
-  i3 = l10;
-  i4 = 255u;
-  i3 &= i4;
-  j4 = p2;
-  j5 = 2ull;
-  j4 += j5;
-  i4 = (u32)(j4);
-  i4 = i32_load16_u(j4);
-  i3 = i3 >= i4;
-  i2 |= i3;
-  l14 = i2;
-  i0 = i2 ? i0 : i1;
-  l13 = i0;
-  goto B2;
-  B10:;
-  i0 = l11;
-  i1 = 8u;
-  i0 >>= (i1 & 31);
-  l15 = i0;
-  i0 = 0u;
-  l13 = i0;
-  i0 = 0u;
-  l14 = i0;
-  i0 = l11;
+  if (i0) {goto B22;}
+  i0 = l18;
   j0 = (u64)(i0);
-  j1 = 255ull;
-  j0 &= j1;
-  i0 = (u32)(j0);
-  switch (i0) {
-    case 0: goto B14;
-    case 1: goto B4;
-    case 2: goto B4;
-    case 3: goto B7;
-    case 4: goto B14;
-    case 5: goto B4;
-    case 6: goto B15;
-    case 7: goto B16;
-    case 8: goto B15;
-    case 9: goto B4;
-    case 10: goto B4;
-    default: goto B14;
-  }
+  j1 = l5;
+  j0 += j1;
+  i1 = l17;
+  j1 = (u64)(i1);
+  l7 = j1;
+  i0 = j0 <= j1;
+  if (i0) {goto B8;}
+  i0 = 0u;
+  l16 = i0;
+  i0 = 9u;
+  l15 = i0;
+  i0 = l13;
+  l17 = i0;
+  goto B0;
+  B23:;
+  i0 = 5u;
+  l15 = i0;
+  goto B2;
+  B22:;
+  i0 = l17;
+  j0 = (u64)(i0);
+  l7 = j0;
+  i0 = 0u;
+  l17 = i0;
+  i0 = 6u;
+  l15 = i0;
+  i0 = l12;
+  l16 = i0;
+  goto B0;
   B16:;
-  i0 = 9u;
-  i1 = 0u;
-  i2 = l10;
-  i3 = 255u;
-  i2 = i2 > i3;
-  i3 = l12;
-  i4 = l10;
-  i3 += i4;
-  i4 = 256u;
-  i3 = i3 > i4;
-  i2 |= i3;
-  l14 = i2;
-  i0 = i2 ? i0 : i1;
-  l13 = i0;
-  goto B4;
-  B15:;
-  i0 = 9u;
-  i1 = 0u;
-  i2 = l10;
-  i3 = 255u;
-  i2 = i2 > i3;
-  l14 = i2;
-  i0 = i2 ? i0 : i1;
-  l13 = i0;
-  goto B4;
-  B14:;
-  i0 = 9u;
-  i1 = 0u;
-  i2 = l15;
-  i3 = 15u;
-  i2 = i2 > i3;
-  l14 = i2;
-  i0 = i2 ? i0 : i1;
-  l13 = i0;
-  goto B4;
-  B9:;
   j0 = p2;
   i0 = (u32)(j0);
   i0 = i32_load8_u(j0);
-  l14 = i0;
+  l16 = i0;
   i1 = 4294967293u;
   i0 += i1;
   i1 = 251u;
   i0 &= i1;
-  if (i0) {goto B17;}
-  i0 = 1u;
-  l14 = i0;
-  i0 = 5u;
-  l13 = i0;
-  goto B5;
-  B17:;
+  i0 = !(i0);
+  if (i0) {goto B4;}
   j0 = l4;
   j1 = 8ull;
   j0 += j1;
-  i1 = l14;
+  i1 = l16;
   j2 = p2;
   j3 = 32ull;
   j2 += j3;
   i2 = (u32)(j2);
   i2 = i32_load16_u(j2);
-  l12 = i2;
+  l15 = i2;
   f25(self, j0, i1, i2);
   i0 = 1u;
   l14 = i0;
-  i0 = 6u;
-  l13 = i0;
-  j0 = l4;
-  i0 = (u32)(j0);
-  i0 = i32_load8_u(j0 + 8u);
-  i1 = 1u;
-  i0 = i0 != i1;
-  if (i0) {goto B5;}
-  j0 = l4;
-  i0 = (u32)(j0);
-  i0 = i32_load8_u(j0 + 78u);
+  i0 = 0u;
+  l18 = i0;
+  i0 = l10;
   i1 = 255u;
   i0 &= i1;
-  i1 = l7;
+  j1 = l4;
+  i1 = (u32)(j1);
+  i1 = i32_load8_u(j1 + 78u);
+  i2 = 0u;
+  j3 = l4;
+  i3 = (u32)(j3);
+  i3 = i32_load8_u(j3 + 8u);
+  i4 = 1u;
+  i3 = i3 == i4;
+  i1 = i3 ? i1 : i2;
   i2 = 255u;
   i1 &= i2;
+  l17 = i1;
+  i0 = i0 >= i1;
+  if (i0) {goto B1;}
+  i0 = 1u;
+  l14 = i0;
+  i0 = l8;
+  i1 = 1u;
+  i0 += i1;
+  i1 = l15;
+  i0 *= i1;
+  l17 = i0;
+  j0 = p2;
+  j1 = 2ull;
+  j0 += j1;
+  i0 = (u32)(j0);
+  i0 = i32_load16_u(j0);
+  i1 = 3u;
+  i0 <<= (i1 & 31);
+  l18 = i0;
+  i1 = l12;
   i0 = i0 <= i1;
-  if (i0) {goto B5;}
-  i0 = 7u;
-  i1 = 0u;
-  j2 = p2;
-  j3 = 2ull;
-  j2 += j3;
-  i2 = (u32)(j2);
-  i2 = i32_load16_u(j2);
-  i3 = 3u;
-  i2 <<= (i3 & 31);
-  i3 = l11;
-  i2 = i2 <= i3;
-  i3 = l8;
-  i4 = 1u;
-  i3 += i4;
-  i4 = l12;
-  i3 *= i4;
-  i4 = l10;
-  i3 = i3 <= i4;
-  i2 |= i3;
-  l14 = i2;
-  i0 = i2 ? i0 : i1;
-  l13 = i0;
+  if (i0) {goto B24;}
+  i0 = l17;
+  i1 = l11;
+  i0 = i0 > i1;
+  if (i0) {goto B8;}
+  B24:;
+  i0 = l17;
+  j0 = (u64)(i0);
+  j1 = 32ull;
+  j0 <<= (j1 & 63);
+  i1 = l18;
+  j1 = (u64)(i1);
+  j0 |= j1;
+  l7 = j0;
   goto B5;
-  B8:;
-  i0 = 7u;
-  i1 = 0u;
+  B15:;
+  j0 = p2;
+  i0 = (u32)(j0);
+  i0 = i32_load8_u(j0);
+  l16 = i0;
+  i1 = 4294967293u;
+  i0 += i1;
+  i1 = 251u;
+  i0 &= i1;
+  i0 = !(i0);
+  if (i0) {goto B4;}
+  j0 = l4;
+  j1 = 8ull;
+  j0 += j1;
+  i1 = l16;
   j2 = p2;
-  j3 = p2;
-  j4 = 26ull;
-  j3 += j4;
-  i3 = (u32)(j3);
-  j3 = i64_load8_u(j3);
-  j4 = 1ull;
-  j3 <<= (j4 & 63);
-  j2 += j3;
-  j3 = 8ull;
+  j3 = 32ull;
   j2 += j3;
   i2 = (u32)(j2);
   i2 = i32_load16_u(j2);
-  l14 = i2;
-  i3 = 8u;
-  i2 >>= (i3 & 31);
-  i3 = l8;
-  i2 = i2 > i3;
-  i3 = l14;
-  i4 = 255u;
-  i3 &= i4;
-  j4 = p2;
-  j5 = 2ull;
-  j4 += j5;
-  i4 = (u32)(j4);
-  i4 = i32_load16_u(j4);
-  i3 = i3 >= i4;
-  i2 |= i3;
-  l14 = i2;
-  i0 = i2 ? i0 : i1;
-  l13 = i0;
-  goto B3;
-  B7:;
-  i0 = 9u;
-  i1 = 0u;
-  i2 = l15;
-  i3 = 1u;
-  i2 = i2 > i3;
-  l14 = i2;
-  i0 = i2 ? i0 : i1;
-  l13 = i0;
-  goto B4;
-  B6:;
+  l15 = i2;
+  f25(self, j0, i1, i2);
+  i0 = 1u;
+  l14 = i0;
+  i0 = 0u;
+  l18 = i0;
+  i0 = l10;
+  i1 = 255u;
+  i0 &= i1;
+  j1 = l4;
+  i1 = (u32)(j1);
+  i1 = i32_load8_u(j1 + 78u);
+  i2 = 0u;
+  j3 = l4;
+  i3 = (u32)(j3);
+  i3 = i32_load8_u(j3 + 8u);
+  i4 = 1u;
+  i3 = i3 == i4;
+  i1 = i3 ? i1 : i2;
+  i2 = 255u;
+  i1 &= i2;
+  l17 = i1;
+  i0 = i0 >= i1;
+  if (i0) {goto B1;}
+  i0 = 1u;
+  l14 = i0;
+  i0 = l8;
+  i1 = 1u;
+  i0 += i1;
+  i1 = l15;
+  i0 *= i1;
+  l17 = i0;
+  j0 = p2;
+  j1 = 2ull;
+  j0 += j1;
+  i0 = (u32)(j0);
+  i0 = i32_load16_u(j0);
+  i1 = 3u;
+  i0 <<= (i1 & 31);
+  l18 = i0;
+  i1 = l12;
+  i0 = i0 <= i1;
+  if (i0) {goto B25;}
+  i0 = l17;
+  i1 = l11;
+  i0 = i0 > i1;
+  if (i0) {goto B8;}
+  B25:;
+  i0 = l17;
+  j0 = (u64)(i0);
+  j1 = 32ull;
+  j0 <<= (j1 & 63);
+  i1 = l18;
+  j1 = (u64)(i1);
+  j0 |= j1;
+  l7 = j0;
+  goto B5;
+  B14:;
+  j0 = p2;
+  j1 = p2;
+  j2 = 26ull;
+  j1 += j2;
+  i1 = (u32)(j1);
+  j1 = i64_load8_u(j1);
+  j2 = 1ull;
+  j1 <<= (j2 & 63);
+  j0 += j1;
+  j1 = 8ull;
+  j0 += j1;
+  i0 = (u32)(j0);
+  i0 = i32_load16_u(j0);
+  l14 = i0;
+  i1 = 255u;
+  i0 &= i1;
+  l17 = i0;
+  j0 = p2;
+  j1 = 2ull;
+  j0 += j1;
+  i0 = (u32)(j0);
+  i0 = i32_load16_u(j0);
+  l18 = i0;
+  i0 = l14;
+  i1 = 8u;
+  i0 >>= (i1 & 31);
+  l16 = i0;
+  i1 = l8;
+  i0 = i0 > i1;
+  if (i0) {goto B26;}
+  i0 = l17;
+  i1 = l18;
+  i0 = i0 < i1;
+  if (i0) {goto B8;}
+  B26:;
+  i0 = l18;
+  i1 = 16u;
+  i0 <<= (i1 & 31);
+  i1 = l9;
+  i0 |= i1;
+  l18 = i0;
+  i0 = 7u;
+  l15 = i0;
+  goto B11;
+  B13:;
+  j0 = p1;
+  j1 = 10ull;
+  j0 += j1;
+  i0 = (u32)(j0);
+  i0 = i32_load8_u(j0);
+  l14 = i0;
+  j0 = p1;
+  j1 = 8ull;
+  j0 += j1;
+  i0 = (u32)(j0);
+  j0 = i64_load16_u(j0);
+  p1 = j0;
   j0 = l4;
   j1 = 8ull;
   j0 += j1;
@@ -45214,106 +45327,337 @@ static void f36(module *self, u64 p0, u64 p1, u64 p2, u64 p3) {
   i2 = (u32)(j2);
   i2 = i32_load16_u(j2);
   f25(self, j0, i1, i2);
-  i0 = 6u;
+  i0 = 0u;
+  l18 = i0;
+  j0 = l4;
+  i0 = (u32)(j0);
+  i0 = i32_load8_u(j0 + 78u);
   i1 = 0u;
   j2 = l4;
   i2 = (u32)(j2);
   i2 = i32_load8_u(j2 + 8u);
   i3 = 1u;
-  i2 = i2 != i3;
-  j3 = l4;
-  i3 = (u32)(j3);
-  i3 = i32_load8_u(j3 + 78u);
-  i4 = 255u;
-  i3 &= i4;
-  i4 = l7;
-  i5 = 255u;
-  i4 &= i5;
-  i3 = i3 <= i4;
-  i2 |= i3;
-  l14 = i2;
+  i2 = i2 == i3;
   i0 = i2 ? i0 : i1;
-  l13 = i0;
-  B5:;
-  i0 = l15;
-  i1 = 12u;
-  i0 = i0 < i1;
-  if (i0) {goto B3;}
-  i0 = l15;
-  i1 = 4294967284u;
-  i0 += i1;
-  switch (i0) {
-    case 0: goto B4;
-    case 1: goto B3;
-    case 2: goto B2;
-    case 3: goto B3;
-    default: goto B4;
-  }
-  B4:;
-  j0 = 17ull;
-  p1 = j0;
-  i0 = 1u;
-  i1 = l11;
+  i1 = 255u;
+  i0 &= i1;
+  l17 = i0;
+  i1 = l12;
   i2 = 255u;
   i1 &= i2;
-  l15 = i1;
-  i0 <<= (i1 & 31);
-  i1 = 1915u;
+  i0 = i0 <= i1;
+  if (i0) {goto B27;}
+  i0 = l11;
+  i1 = 255u;
   i0 &= i1;
-  if (i0) {goto B3;}
-  i0 = l15;
-  i1 = 2u;
-  i0 = i0 == i1;
-  if (i0) {goto B1;}
-  j0 = l6;
-  j1 = 3ull;
-  j0 *= j1;
+  l17 = i0;
+  j0 = p2;
+  j1 = 2ull;
+  j0 += j1;
+  i0 = (u32)(j0);
+  i0 = i32_load16_u(j0);
+  l18 = i0;
+  i0 = l11;
+  i1 = 8u;
+  i0 >>= (i1 & 31);
+  l16 = i0;
+  i1 = l8;
+  i0 = i0 > i1;
+  if (i0) {goto B28;}
+  i0 = l17;
+  i1 = l18;
+  i0 = i0 < i1;
+  if (i0) {goto B10;}
+  B28:;
+  i0 = l18;
+  i1 = 16u;
+  i0 <<= (i1 & 31);
+  i1 = l9;
+  i0 |= i1;
+  l18 = i0;
+  i0 = 7u;
+  l15 = i0;
+  goto B11;
+  B27:;
+  i0 = 5u;
+  l15 = i0;
+  i0 = 1u;
+  l14 = i0;
+  goto B2;
+  B12:;
+  i0 = l12;
+  i1 = 8u;
+  i0 >>= (i1 & 31);
+  l10 = i0;
+  i0 = 0u;
+  l18 = i0;
+  j0 = 17ull;
   p1 = j0;
-  goto B1;
-  B3:;
-  i0 = l13;
+  i0 = 0u;
+  l14 = i0;
+  i0 = 0u;
+  l15 = i0;
+  i0 = 0u;
+  l16 = i0;
+  i0 = 0u;
+  l17 = i0;
+  j0 = 0ull;
+  l7 = j0;
+  i0 = l12;
+  j0 = (u64)(i0);
+  j1 = 255ull;
+  j0 &= j1;
+  i0 = (u32)(j0);
+  switch (i0) {
+    case 0: goto B30;
+    case 1: goto B0;
+    case 2: goto B9;
+    case 3: goto B34;
+    case 4: goto B35;
+    case 5: goto B0;
+    case 6: goto B33;
+    case 7: goto B31;
+    case 8: goto B32;
+    case 9: goto B0;
+    case 10: goto B0;
+    default: goto B30;
+  }
+  B35:;
+  i0 = 0u;
+  l17 = i0;
+  i0 = l10;
+  i1 = 0u;
+  i2 = l10;
+  i3 = 15u;
+  i2 = i2 > i3;
+  l14 = i2;
+  i0 = i2 ? i0 : i1;
+  l16 = i0;
+  i0 = 11u;
   i1 = 0u;
   i2 = l14;
   i0 = i2 ? i0 : i1;
-  l13 = i0;
-  goto B0;
-  B2:;
+  l15 = i0;
+  goto B29;
+  B34:;
+  i0 = l10;
+  i1 = 2u;
+  i0 = i0 < i1;
+  if (i0) {goto B8;}
+  i0 = 0u;
+  l17 = i0;
+  i0 = 12u;
+  l15 = i0;
+  i0 = 1u;
+  l14 = i0;
+  i0 = l10;
+  l16 = i0;
+  goto B3;
+  B33:;
+  i0 = 0u;
+  l16 = i0;
+  i0 = 13u;
+  i1 = 0u;
+  i2 = l11;
+  i3 = 255u;
+  i2 = i2 > i3;
+  l14 = i2;
+  i0 = i2 ? i0 : i1;
+  l15 = i0;
+  i0 = l11;
+  i1 = 0u;
+  i2 = l14;
+  i0 = i2 ? i0 : i1;
+  l17 = i0;
+  goto B29;
+  B32:;
+  i0 = 0u;
+  l16 = i0;
+  i0 = 13u;
+  i1 = 0u;
+  i2 = l11;
+  i3 = 255u;
+  i2 = i2 > i3;
+  l14 = i2;
+  i0 = i2 ? i0 : i1;
+  l15 = i0;
+  i0 = l11;
+  i1 = 0u;
+  i2 = l14;
+  i0 = i2 ? i0 : i1;
+  l17 = i0;
+  goto B29;
+  B31:;
+  i0 = 0u;
+  l16 = i0;
+  i0 = 14u;
+  l15 = i0;
+  i0 = 1u;
+  l14 = i0;
+  i0 = l11;
+  i1 = 255u;
+  i0 = i0 > i1;
+  if (i0) {goto B6;}
+  i0 = l13;
+  i1 = l11;
+  i0 += i1;
+  i1 = 256u;
+  i0 = i0 > i1;
+  if (i0) {goto B6;}
   j0 = l5;
-  i1 = l9;
+  j1 = 3ull;
+  j0 *= j1;
+  p1 = j0;
+  goto B9;
+  B30:;
+  i0 = 0u;
+  l17 = i0;
+  i0 = l10;
+  i1 = 0u;
+  i2 = l10;
+  i3 = 15u;
+  i2 = i2 > i3;
+  l14 = i2;
+  i0 = i2 ? i0 : i1;
+  l16 = i0;
+  i0 = 11u;
+  i1 = 0u;
+  i2 = l14;
+  i0 = i2 ? i0 : i1;
+  l15 = i0;
+  B29:;
+  i0 = l14;
+  i0 = !(i0);
+  if (i0) {goto B8;}
+  B11:;
+  i0 = 1u;
+  l14 = i0;
+  j0 = 0ull;
+  l7 = j0;
+  goto B0;
+  B10:;
+  j0 = p1;
+  i1 = l14;
   j1 = (u64)(i1);
   j2 = 1ull;
   j1 &= j2;
   j0 <<= (j1 & 63);
   p1 = j0;
-  B1:;
-  i0 = l13;
-  i1 = 10u;
-  i2 = 0u;
-  j3 = p3;
-  j4 = p1;
-  i3 = j3 != j4;
-  l15 = i3;
-  i1 = i3 ? i1 : i2;
-  i2 = l14;
-  i3 = 255u;
-  i2 &= i3;
-  l14 = i2;
-  i0 = i2 ? i0 : i1;
-  l13 = i0;
-  i0 = l14;
-  i1 = 0u;
-  i0 = i0 != i1;
-  i1 = l15;
-  i0 |= i1;
+  B9:;
+  j0 = p3;
+  j1 = p1;
+  i0 = j0 != j1;
+  if (i0) {goto B7;}
+  B8:;
+  i0 = 0u;
   l14 = i0;
+  i0 = 0u;
+  l15 = i0;
+  i0 = 0u;
+  l16 = i0;
+  i0 = 0u;
+  l17 = i0;
+  goto B3;
+  B7:;
+  i0 = 0u;
+  l16 = i0;
+  i0 = 15u;
+  l15 = i0;
+  i0 = 1u;
+  l14 = i0;
+  i0 = 0u;
+  l17 = i0;
+  i0 = 0u;
+  l18 = i0;
+  j0 = p3;
+  l7 = j0;
+  j0 = p1;
+  l6 = j0;
+  goto B0;
+  B6:;
+  i0 = l13;
+  l17 = i0;
+  i0 = l11;
+  l18 = i0;
+  j0 = 0ull;
+  l7 = j0;
+  goto B0;
+  B5:;
+  i0 = 0u;
+  l16 = i0;
+  i0 = 8u;
+  l15 = i0;
+  i0 = l12;
+  l17 = i0;
+  i0 = l11;
+  l18 = i0;
+  goto B0;
+  B4:;
+  i0 = 0u;
+  l17 = i0;
+  i0 = 3u;
+  l15 = i0;
+  i0 = 1u;
+  l14 = i0;
+  B3:;
+  i0 = 0u;
+  l18 = i0;
+  j0 = 0ull;
+  l7 = j0;
+  goto B0;
+  B2:;
+  i0 = l12;
+  l16 = i0;
+  j0 = 0ull;
+  l7 = j0;
+  goto B0;
+  B1:;
+  i0 = 5u;
+  l15 = i0;
+  i0 = l10;
+  l16 = i0;
+  j0 = 0ull;
+  l7 = j0;
   B0:;
   j0 = p0;
   i0 = (u32)(j0);
-  i1 = l13;
-  i32_store8(j0 + 1, i1);
-  j0 = p0;
-  i0 = (u32)(j0);
   i1 = l14;
+  i32_store8(j0, i1);
+  j0 = p0;
+  j1 = 24ull;
+  j0 += j1;
+  i0 = (u32)(j0);
+  j1 = l6;
+  i64_store(j0, j1);
+  j0 = p0;
+  j1 = 16ull;
+  j0 += j1;
+  i0 = (u32)(j0);
+  j1 = l7;
+  i64_store(j0, j1);
+  j0 = p0;
+  j1 = 12ull;
+  j0 += j1;
+  i0 = (u32)(j0);
+  i1 = l18;
+  i32_store(j0, i1);
+  j0 = p0;
+  j1 = 10ull;
+  j0 += j1;
+  i0 = (u32)(j0);
+  i1 = l17;
+  i32_store16(j0, i1);
+  j0 = p0;
+  j1 = 9ull;
+  j0 += j1;
+  i0 = (u32)(j0);
+  i1 = l16;
+  i32_store8(j0, i1);
+  j0 = p0;
+  j1 = 8ull;
+  j0 += j1;
+  i0 = (u32)(j0);
+  i1 = l15;
   i32_store8(j0, i1);
   j0 = l4;
   j1 = 96ull;
@@ -46447,7 +46791,7 @@ static void f40(module *self, u64 p0, u32 p1, u32 p2) {
   j1 <<= (j2 & 63);
   l4 = j1;
   i1 = (u32)(j1);
-  i1 = i32_load(j1 + 1051768u);
+  i1 = i32_load(j1 + 1051788u);
   i32_store(j0, i1);
   j0 = p0;
   j1 = 64ull;
@@ -46455,7 +46799,7 @@ static void f40(module *self, u64 p0, u32 p1, u32 p2) {
   i0 = (u32)(j0);
   j1 = l4;
   i1 = (u32)(j1);
-  i1 = i32_load(j1 + 1051784u);
+  i1 = i32_load(j1 + 1051804u);
   i32_store(j0, i1);
   j0 = p0;
   j1 = 72ull;
@@ -50753,7 +51097,7 @@ static void f49(module *self, u64 p0, u64 p1, u32 p2, u32 p3) {
   j1 <<= (j2 & 63);
   l5 = j1;
   i1 = (u32)(j1);
-  i1 = i32_load(j1 + 1051784u);
+  i1 = i32_load(j1 + 1051804u);
   i32_store(j0, i1);
   j0 = p1;
   j1 = 60ull;
@@ -50761,7 +51105,7 @@ static void f49(module *self, u64 p0, u64 p1, u32 p2, u32 p3) {
   i0 = (u32)(j0);
   j1 = l5;
   i1 = (u32)(j1);
-  i1 = i32_load(j1 + 1051768u);
+  i1 = i32_load(j1 + 1051788u);
   i32_store(j0, i1);
   j0 = p1;
   j1 = 72ull;
@@ -55378,35 +55722,35 @@ static void f62(module *self, u64 p0, u64 p1, u64 p2, u64 p3, u64 p4, u64 p5, u6
   u32 i0, i1, i2, i3, i4, i5, i6, i7;
   u64 j0, j1, j2, j3, j4, j5, j6;
   j0 = self->g0;
-  j1 = 448ull;
+  j1 = 464ull;
   j0 -= j1;
   l7 = j0;
   self->g0 = j0;
   j0 = l7;
   i0 = (u32)(j0);
   i1 = 0u;
-  i32_store(j0 + 291, i1);
+  i32_store(j0 + 283, i1);
   j0 = l7;
   i0 = (u32)(j0);
   i1 = 0u;
-  i32_store(j0 + 288, i1);
+  i32_store(j0 + 280, i1);
   j0 = l7;
   i0 = (u32)(j0);
   i1 = 0u;
-  i32_store(j0 + 264, i1);
+  i32_store(j0 + 256, i1);
   j0 = l7;
   i0 = (u32)(j0);
   i1 = 0u;
-  i32_store(j0 + 267, i1);
+  i32_store(j0 + 259, i1);
   j0 = l7;
-  j1 = 272ull;
+  j1 = 264ull;
   j0 += j1;
   j1 = p4;
   f21(self, j0, j1);
   j0 = l7;
   i0 = (u32)(j0);
-  i0 = i32_load8_u(j0 + 272u);
-  if (i0) {goto B10;}
+  i0 = i32_load8_u(j0 + 264u);
+  if (i0) {goto B3;}
   i0 = 3u;
   i1 = 2u;
   j2 = p2;
@@ -55414,11 +55758,11 @@ static void f62(module *self, u64 p0, u64 p1, u64 p2, u64 p3, u64 p4, u64 p5, u6
   i2 = i32_load8_u(j2);
   i0 = i2 ? i0 : i1;
   l20 = i0;
-  goto B9;
-  B10:;
+  goto B2;
+  B3:;
   j0 = l7;
   i0 = (u32)(j0);
-  j0 = i64_load8_u(j0 + 274u);
+  j0 = i64_load8_u(j0 + 266u);
   i0 = (u32)(j0);
   switch (i0) {
     case 0: goto B14;
@@ -55430,7 +55774,7 @@ static void f62(module *self, u64 p0, u64 p1, u64 p2, u64 p3, u64 p4, u64 p5, u6
   B14:;
   j0 = l7;
   i0 = (u32)(j0);
-  i0 = i32_load8_u(j0 + 276u);
+  i0 = i32_load8_u(j0 + 268u);
   l21 = i0;
   i0 = 753664u;
   l22 = i0;
@@ -55492,7 +55836,7 @@ static void f62(module *self, u64 p0, u64 p1, u64 p2, u64 p3, u64 p4, u64 p5, u6
   l49 = i0;
   j0 = l7;
   i0 = (u32)(j0);
-  i0 = i32_load8_u(j0 + 275u);
+  i0 = i32_load8_u(j0 + 267u);
   l50 = i0;
   l51 = i0;
   i0 = 2u;
@@ -55547,7 +55891,7 @@ static void f62(module *self, u64 p0, u64 p1, u64 p2, u64 p3, u64 p4, u64 p5, u6
   i1 = 4294967293u;
   i0 += i1;
   switch (i0) {
-    case 0: goto B2;
+    case 0: goto B5;
     case 1: goto B15;
     case 2: goto B15;
     case 3: goto B15;
@@ -55643,7 +55987,7 @@ static void f62(module *self, u64 p0, u64 p1, u64 p2, u64 p3, u64 p4, u64 p5, u6
   l74 = i0;
   i0 = 1u;
   l75 = i0;
-  goto B2;
+  goto B5;
   B19:;
   i0 = 0u;
   l53 = i0;
@@ -55737,7 +56081,7 @@ static void f62(module *self, u64 p0, u64 p1, u64 p2, u64 p3, u64 p4, u64 p5, u6
   l74 = i0;
   i0 = 2u;
   l75 = i0;
-  goto B2;
+  goto B5;
   B18:;
   i0 = 0u;
   l53 = i0;
@@ -55809,7 +56153,7 @@ static void f62(module *self, u64 p0, u64 p1, u64 p2, u64 p3, u64 p4, u64 p5, u6
   l70 = i0;
   i0 = 24u;
   l71 = i0;
-  goto B3;
+  goto B6;
   B17:;
   i0 = 0u;
   l53 = i0;
@@ -55887,7 +56231,7 @@ static void f62(module *self, u64 p0, u64 p1, u64 p2, u64 p3, u64 p4, u64 p5, u6
   l70 = i0;
   i0 = 16u;
   l72 = i0;
-  goto B3;
+  goto B6;
   B16:;
   i0 = 0u;
   l73 = i0;
@@ -55973,44 +56317,46 @@ static void f62(module *self, u64 p0, u64 p1, u64 p2, u64 p3, u64 p4, u64 p5, u6
   l74 = i0;
   i0 = 3u;
   l75 = i0;
-  goto B2;
+  goto B5;
   B15:;
   j0 = l7;
   i0 = (u32)(j0);
   i1 = 0u;
-  i32_store(j0 + 267, i1);
+  i32_store(j0 + 259, i1);
   j0 = l7;
   i0 = (u32)(j0);
   i1 = 0u;
-  i32_store(j0 + 264, i1);
+  i32_store(j0 + 256, i1);
   j0 = 0ull;
   p4 = j0;
   i0 = 4u;
   l20 = i0;
-  goto B8;
+  i0 = 1u;
+  l39 = i0;
+  goto B1;
   B13:;
   j0 = l7;
   i0 = (u32)(j0);
-  i0 = i32_load16_u(j0 + 278u);
+  i0 = i32_load16_u(j0 + 270u);
   l49 = i0;
   j0 = l7;
   i0 = (u32)(j0);
-  i0 = i32_load8_u(j0 + 276u);
+  i0 = i32_load8_u(j0 + 268u);
   l20 = i0;
   j0 = l7;
   i0 = (u32)(j0);
-  i0 = i32_load16_u(j0 + 280u);
+  i0 = i32_load16_u(j0 + 272u);
   l48 = i0;
   i0 = 0u;
   l39 = i0;
   j0 = l7;
   i0 = (u32)(j0);
   i1 = 0u;
-  i32_store(j0 + 423, i1);
+  i32_store(j0 + 427, i1);
   j0 = l7;
   i0 = (u32)(j0);
   i1 = 0u;
-  i32_store(j0 + 420, i1);
+  i32_store(j0 + 424, i1);
   j0 = p2;
   i0 = (u32)(j0);
   i0 = i32_load8_u(j0);
@@ -56018,16 +56364,16 @@ static void f62(module *self, u64 p0, u64 p1, u64 p2, u64 p3, u64 p4, u64 p5, u6
   j0 = l7;
   i0 = (u32)(j0);
   i1 = 0u;
-  i32_store(j0 + 291, i1);
+  i32_store(j0 + 283, i1);
   j0 = l7;
   i0 = (u32)(j0);
   i1 = 0u;
-  i32_store(j0 + 288, i1);
+  i32_store(j0 + 280, i1);
   j0 = 0ull;
   p4 = j0;
   i0 = 2u;
   l49 = i0;
-  goto B5;
+  goto B8;
   B21:;
   i0 = l20;
   i1 = 255u;
@@ -56050,25 +56396,25 @@ static void f62(module *self, u64 p0, u64 p1, u64 p2, u64 p3, u64 p4, u64 p5, u6
   j0 = l7;
   i0 = (u32)(j0);
   i1 = 0u;
-  i32_store(j0 + 291, i1);
+  i32_store(j0 + 283, i1);
   j0 = l7;
   i0 = (u32)(j0);
   i1 = 0u;
-  i32_store(j0 + 288, i1);
+  i32_store(j0 + 280, i1);
   j0 = 0ull;
   p4 = j0;
   i0 = 9u;
   l49 = i0;
-  goto B5;
+  goto B8;
   B24:;
   j0 = l7;
   i0 = (u32)(j0);
   i1 = 0u;
-  i32_store(j0 + 296, i1);
+  i32_store(j0 + 288, i1);
   j0 = l7;
   i0 = (u32)(j0);
   i1 = 0u;
-  i32_store(j0 + 299, i1);
+  i32_store(j0 + 291, i1);
   j0 = p2;
   j1 = 28ull;
   j0 += j1;
@@ -56078,17 +56424,17 @@ static void f62(module *self, u64 p0, u64 p1, u64 p2, u64 p3, u64 p4, u64 p5, u6
   j0 = l7;
   i0 = (u32)(j0);
   i1 = 0u;
-  i32_store8(j0 + 336, i1);
+  i32_store8(j0 + 312, i1);
   j0 = 0ull;
-  p6 = j0;
+  p5 = j0;
   j0 = l7;
   i0 = (u32)(j0);
   j1 = 0ull;
-  i64_store(j0 + 328, j1);
+  i64_store(j0 + 304, j1);
   j0 = l7;
   i0 = (u32)(j0);
   j1 = 0ull;
-  i64_store(j0 + 320, j1);
+  i64_store(j0 + 296, j1);
   j0 = l7;
   j1 = 32ull;
   j0 += j1;
@@ -56105,13 +56451,13 @@ static void f62(module *self, u64 p0, u64 p1, u64 p2, u64 p3, u64 p4, u64 p5, u6
   j0 = p1;
   j1 = 167ull;
   j0 += j1;
-  p5 = j0;
+  p6 = j0;
   j0 = p1;
   j1 = 146ull;
   j0 += j1;
   p2 = j0;
   L26: 
-    j0 = p6;
+    j0 = p5;
     i0 = (u32)(j0);
     l39 = i0;
     i1 = 32u;
@@ -56148,7 +56494,7 @@ static void f62(module *self, u64 p0, u64 p1, u64 p2, u64 p3, u64 p4, u64 p5, u6
     i0 &= i1;
     if (i0) {goto B31;}
     B32:;
-    j0 = p5;
+    j0 = p6;
     i1 = l39;
     j1 = (u64)(i1);
     p3 = j1;
@@ -56163,7 +56509,7 @@ static void f62(module *self, u64 p0, u64 p1, u64 p2, u64 p3, u64 p4, u64 p5, u6
     i1 &= i2;
     i32_store8(j0, i1);
     j0 = l7;
-    j1 = 304ull;
+    j1 = 440ull;
     j0 += j1;
     j1 = p2;
     f28(self, j0, j1);
@@ -56171,13 +56517,13 @@ static void f62(module *self, u64 p0, u64 p1, u64 p2, u64 p3, u64 p4, u64 p5, u6
     i0 = (u32)(j0);
     j1 = l7;
     i1 = (u32)(j1);
-    j1 = i64_load(j1 + 312u);
+    j1 = i64_load(j1 + 448u);
     i64_store(j0 + 8, j1);
     j0 = l8;
     i0 = (u32)(j0);
     j1 = l7;
     i1 = (u32)(j1);
-    j1 = i64_load(j1 + 304u);
+    j1 = i64_load(j1 + 440u);
     i64_store(j0, j1);
     B31:;
     i0 = 0u;
@@ -56201,7 +56547,7 @@ static void f62(module *self, u64 p0, u64 p1, u64 p2, u64 p3, u64 p4, u64 p5, u6
     i0 = (u32)(j0);
     i1 = l20;
     i32_store8(j0, i1);
-    j0 = p5;
+    j0 = p6;
     i1 = l39;
     j1 = (u64)(i1);
     j2 = 255ull;
@@ -56218,17 +56564,17 @@ static void f62(module *self, u64 p0, u64 p1, u64 p2, u64 p3, u64 p4, u64 p5, u6
     i2 = l49;
     f31(self, j0, j1, i2); if (NEVER(self->is_broken)) return;
     j0 = l7;
-    j1 = 320ull;
+    j1 = 296ull;
     j0 += j1;
-    j1 = p6;
+    j1 = p5;
     j0 += j1;
     i0 = (u32)(j0);
     i1 = l39;
     i32_store8(j0, i1);
-    j0 = p6;
+    j0 = p5;
     j1 = 1ull;
     j0 += j1;
-    p6 = j0;
+    p5 = j0;
     j1 = 16ull;
     i0 = j0 != j1;
     if (i0) {goto L26;}
@@ -56245,7 +56591,7 @@ static void f62(module *self, u64 p0, u64 p1, u64 p2, u64 p3, u64 p4, u64 p5, u6
   i1 = 49u;
   i32_store8(j0, i1);
   j0 = 17ull;
-  p6 = j0;
+  p5 = j0;
   i0 = 1u;
   l39 = i0;
   goto B35;
@@ -56264,7 +56610,7 @@ static void f62(module *self, u64 p0, u64 p1, u64 p2, u64 p3, u64 p4, u64 p5, u6
   if (i0) {goto B34;}
   i0 = l39;
   j0 = (u64)(i0);
-  p6 = j0;
+  p5 = j0;
   i0 = l39;
   i1 = 15u;
   i0 = i0 > i1;
@@ -56274,12 +56620,12 @@ static void f62(module *self, u64 p0, u64 p1, u64 p2, u64 p3, u64 p4, u64 p5, u6
   i0 &= i1;
   if (i0) {goto B37;}
   B38:;
-  j0 = p5;
-  j1 = p6;
+  j0 = p6;
+  j1 = p5;
   j0 += j1;
   i0 = (u32)(j0);
   j1 = p2;
-  j2 = p6;
+  j2 = p5;
   j1 += j2;
   i1 = (u32)(j1);
   i1 = i32_load8_u(j1);
@@ -56287,7 +56633,7 @@ static void f62(module *self, u64 p0, u64 p1, u64 p2, u64 p3, u64 p4, u64 p5, u6
   i1 &= i2;
   i32_store8(j0, i1);
   j0 = l7;
-  j1 = 304ull;
+  j1 = 440ull;
   j0 += j1;
   j1 = p2;
   f28(self, j0, j1);
@@ -56295,13 +56641,13 @@ static void f62(module *self, u64 p0, u64 p1, u64 p2, u64 p3, u64 p4, u64 p5, u6
   i0 = (u32)(j0);
   j1 = l7;
   i1 = (u32)(j1);
-  j1 = i64_load(j1 + 312u);
+  j1 = i64_load(j1 + 448u);
   i64_store(j0 + 8, j1);
   j0 = l8;
   i0 = (u32)(j0);
   j1 = l7;
   i1 = (u32)(j1);
-  j1 = i64_load(j1 + 304u);
+  j1 = i64_load(j1 + 440u);
   i64_store(j0, j1);
   B37:;
   i0 = 0u;
@@ -56313,8 +56659,8 @@ static void f62(module *self, u64 p0, u64 p1, u64 p2, u64 p3, u64 p4, u64 p5, u6
   i0 = (u32)(j0);
   i1 = l39;
   i32_store8(j0, i1);
-  j0 = p5;
-  j1 = p6;
+  j0 = p6;
+  j1 = p5;
   j0 += j1;
   i0 = (u32)(j0);
   i0 = i32_load8_u(j0);
@@ -56333,27 +56679,27 @@ static void f62(module *self, u64 p0, u64 p1, u64 p2, u64 p3, u64 p4, u64 p5, u6
   j0 = l7;
   i0 = (u32)(j0);
   i1 = l39;
-  i32_store8(j0 + 336, i1);
+  i32_store8(j0 + 312, i1);
   j0 = l7;
   i0 = (u32)(j0);
   j1 = l7;
   i1 = (u32)(j1);
-  i1 = i32_load(j1 + 320u);
-  i32_store(j0 + 296, i1);
+  i1 = i32_load(j1 + 296u);
+  i32_store(j0 + 288, i1);
   j0 = l7;
   i0 = (u32)(j0);
   j1 = l7;
   i1 = (u32)(j1);
-  i1 = i32_load(j1 + 323u);
-  i32_store(j0 + 299, i1);
+  i1 = i32_load(j1 + 299u);
+  i32_store(j0 + 291, i1);
   j0 = l7;
   i0 = (u32)(j0);
-  j0 = i64_load(j0 + 327u);
-  p5 = j0;
-  j0 = l7;
-  i0 = (u32)(j0);
-  j0 = i64_load16_u(j0 + 335u);
+  j0 = i64_load(j0 + 303u);
   p6 = j0;
+  j0 = l7;
+  i0 = (u32)(j0);
+  j0 = i64_load16_u(j0 + 311u);
+  p5 = j0;
   i0 = 1u;
   l48 = i0;
   goto B22;
@@ -56376,7 +56722,7 @@ static void f62(module *self, u64 p0, u64 p1, u64 p2, u64 p3, u64 p4, u64 p5, u6
   i0 = 0u;
   l48 = i0;
   j0 = 0ull;
-  p5 = j0;
+  p6 = j0;
   j0 = l7;
   i0 = (u32)(j0);
   j0 = i64_load(j0 + 56u);
@@ -56384,7 +56730,7 @@ static void f62(module *self, u64 p0, u64 p1, u64 p2, u64 p3, u64 p4, u64 p5, u6
   i1 = 1u;
   i0 &= i1;
   i0 = !(i0);
-  if (i0) {goto B7;}
+  if (i0) {goto B10;}
   j0 = l7;
   i0 = (u32)(j0);
   j0 = i64_load(j0 + 64u);
@@ -56392,18 +56738,18 @@ static void f62(module *self, u64 p0, u64 p1, u64 p2, u64 p3, u64 p4, u64 p5, u6
   j0 = l8;
   j1 = 18446744073709551615ull;
   j0 += j1;
-  p6 = j0;
+  p5 = j0;
   i0 = !(j0);
   if (i0) {goto B42;}
   j0 = p2;
   i0 = (u32)(j0);
   i1 = 0u;
-  j2 = p6;
+  j2 = p5;
   i2 = (u32)(j2);
   memory_fill(j0, i1, j2);
   B42:;
   j0 = p2;
-  j1 = p6;
+  j1 = p5;
   j0 += j1;
   i0 = (u32)(j0);
   i1 = 0u;
@@ -56427,7 +56773,7 @@ static void f62(module *self, u64 p0, u64 p1, u64 p2, u64 p3, u64 p4, u64 p5, u6
   f167(self, j0);
   i0 = 0u;
   l48 = i0;
-  goto B7;
+  goto B10;
   B41:;
   j0 = p1;
   j1 = 1999ull;
@@ -56442,26 +56788,26 @@ static void f62(module *self, u64 p0, u64 p1, u64 p2, u64 p3, u64 p4, u64 p5, u6
   i1 = l49;
   i32_store8(j0, i1);
   j0 = 0ull;
-  p5 = j0;
-  j0 = 0ull;
   p6 = j0;
+  j0 = 0ull;
+  p5 = j0;
   goto B39;
   B40:;
   j0 = l7;
   i0 = (u32)(j0);
   j0 = i64_load(j0 + 48u);
-  p6 = j0;
+  p5 = j0;
   i0 = (u32)(j0);
   j1 = l8;
   i64_store(j0 + 16, j1);
-  j0 = p6;
+  j0 = p5;
   i0 = (u32)(j0);
   j1 = p2;
   i64_store(j0, j1);
-  j0 = p6;
+  j0 = p5;
   j1 = 8ull;
   j0 += j1;
-  p5 = j0;
+  p6 = j0;
   i0 = (u32)(j0);
   j1 = l8;
   i64_store(j0, j1);
@@ -56477,7 +56823,7 @@ static void f62(module *self, u64 p0, u64 p1, u64 p2, u64 p3, u64 p4, u64 p5, u6
   i0 = (u32)(j0);
   i1 = l49;
   i32_store8(j0, i1);
-  j0 = p5;
+  j0 = p6;
   i0 = (u32)(j0);
   j0 = i64_load(j0);
   p3 = j0;
@@ -56485,7 +56831,7 @@ static void f62(module *self, u64 p0, u64 p1, u64 p2, u64 p3, u64 p4, u64 p5, u6
   i0 = !(i0);
   if (i0) {goto B43;}
   j0 = 1ull;
-  p5 = j0;
+  p6 = j0;
   goto B39;
   B43:;
   j0 = p1;
@@ -56513,7 +56859,7 @@ static void f62(module *self, u64 p0, u64 p1, u64 p2, u64 p3, u64 p4, u64 p5, u6
     j0 = (u64)(i0);
     j1 = 255ull;
     j0 &= j1;
-    p5 = j0;
+    p6 = j0;
     j0 = p1;
     j1 = 1999ull;
     j0 += j1;
@@ -56534,7 +56880,7 @@ static void f62(module *self, u64 p0, u64 p1, u64 p2, u64 p3, u64 p4, u64 p5, u6
     i1 += i2;
     i32_store8(j0, i1);
     j0 = l11;
-    j1 = p5;
+    j1 = p6;
     j0 += j1;
     i0 = (u32)(j0);
     i0 = i32_load8_u(j0);
@@ -56544,7 +56890,7 @@ static void f62(module *self, u64 p0, u64 p1, u64 p2, u64 p3, u64 p4, u64 p5, u6
     goto B45;
     B47:;
     j0 = l10;
-    j1 = p5;
+    j1 = p6;
     j0 += j1;
     i0 = (u32)(j0);
     i0 = i32_load8_u(j0);
@@ -56554,7 +56900,7 @@ static void f62(module *self, u64 p0, u64 p1, u64 p2, u64 p3, u64 p4, u64 p5, u6
     goto B45;
     B46:;
     j0 = l9;
-    j1 = p5;
+    j1 = p6;
     j0 += j1;
     i0 = (u32)(j0);
     i0 = i32_load8_u(j0);
@@ -56568,7 +56914,7 @@ static void f62(module *self, u64 p0, u64 p1, u64 p2, u64 p3, u64 p4, u64 p5, u6
     i0 = (u32)(j0);
     i1 = l20;
     i32_store8(j0, i1);
-    j0 = p6;
+    j0 = p5;
     i0 = (u32)(j0);
     j0 = i64_load(j0);
     j1 = l8;
@@ -56577,7 +56923,7 @@ static void f62(module *self, u64 p0, u64 p1, u64 p2, u64 p3, u64 p4, u64 p5, u6
     i1 = l39;
     i32_store8(j0, i1);
     j0 = 1ull;
-    p5 = j0;
+    p6 = j0;
     j0 = p3;
     j1 = l8;
     j2 = 1ull;
@@ -56589,11 +56935,11 @@ static void f62(module *self, u64 p0, u64 p1, u64 p2, u64 p3, u64 p4, u64 p5, u6
   j0 = l7;
   i0 = (u32)(j0);
   i1 = 0u;
-  i32_store(j0 + 299, i1);
+  i32_store(j0 + 291, i1);
   j0 = l7;
   i0 = (u32)(j0);
   i1 = 0u;
-  i32_store(j0 + 296, i1);
+  i32_store(j0 + 288, i1);
   i0 = 2u;
   l48 = i0;
   B22:;
@@ -56601,17 +56947,17 @@ static void f62(module *self, u64 p0, u64 p1, u64 p2, u64 p3, u64 p4, u64 p5, u6
   i0 = (u32)(j0);
   j1 = l7;
   i1 = (u32)(j1);
-  i1 = i32_load(j1 + 299u);
-  i32_store(j0 + 423, i1);
+  i1 = i32_load(j1 + 291u);
+  i32_store(j0 + 427, i1);
   j0 = l7;
   i0 = (u32)(j0);
   j1 = l7;
   i1 = (u32)(j1);
-  i1 = i32_load(j1 + 296u);
-  i32_store(j0 + 420, i1);
+  i1 = i32_load(j1 + 288u);
+  i32_store(j0 + 424, i1);
   i0 = 0u;
   l20 = i0;
-  goto B6;
+  goto B9;
   B12:;
   j0 = p2;
   i0 = (u32)(j0);
@@ -56621,85 +56967,86 @@ static void f62(module *self, u64 p0, u64 p1, u64 p2, u64 p3, u64 p4, u64 p5, u6
   j0 = l7;
   i0 = (u32)(j0);
   i1 = 0u;
-  i32_store(j0 + 267, i1);
+  i32_store(j0 + 259, i1);
   j0 = l7;
   i0 = (u32)(j0);
   i1 = 0u;
-  i32_store(j0 + 264, i1);
+  i32_store(j0 + 256, i1);
   j0 = 0ull;
   p4 = j0;
   i0 = 2u;
   l20 = i0;
-  goto B8;
-  B49:;
-  j0 = l7;
-  i0 = (u32)(j0);
-  j0 = i64_load(j0 + 276u);
-  l8 = j0;
-  j1 = 32ull;
-  j0 >>= (j1 & 63);
-  l9 = j0;
-  i0 = 5u;
-  l48 = i0;
   i0 = 1u;
   l39 = i0;
+  goto B1;
+  B49:;
   i0 = l20;
   i1 = 4294967293u;
   i0 += i1;
   i1 = 251u;
   i0 &= i1;
-  if (i0) {goto B50;}
-  i0 = 8u;
-  i1 = 0u;
-  j2 = l9;
-  i2 = (u32)(j2);
-  i3 = 65535u;
-  i2 &= i3;
-  j3 = l8;
-  i3 = (u32)(j3);
-  i4 = 16u;
-  i3 >>= (i4 & 31);
-  i2 += i3;
-  i3 = 256u;
-  i2 = i2 > i3;
-  l39 = i2;
-  i0 = i2 ? i0 : i1;
-  l48 = i0;
-  B50:;
-  i0 = l39;
-  i1 = l39;
-  j2 = p6;
-  j3 = l8;
-  j4 = 15ull;
-  j3 <<= (j4 & 63);
-  j4 = 63ull;
-  j3 = (u64)((s64)j3 >> (j4 & 63));
-  j4 = l9;
-  j5 = 65535ull;
-  j4 &= j5;
-  j5 = l8;
-  j6 = 255ull;
-  j5 &= j6;
-  j4 *= j5;
-  j3 &= j4;
-  i2 = j2 != j3;
-  l49 = i2;
-  j3 = l8;
-  j4 = 281474976710656ull;
-  j3 &= j4;
-  i3 = !(j3);
-  l75 = i3;
-  i1 = i3 ? i1 : i2;
-  i0 |= i1;
-  i1 = 1u;
-  i0 &= i1;
-  if (i0) {goto B51;}
+  i0 = !(i0);
+  if (i0) {goto B52;}
+  i0 = 5u;
+  l20 = i0;
+  goto B51;
+  B52:;
   j0 = l7;
-  j1 = 320ull;
+  i0 = (u32)(j0);
+  j0 = i64_load(j0 + 268u);
+  l8 = j0;
+  j1 = 32ull;
+  j0 >>= (j1 & 63);
+  l9 = j0;
+  i0 = (u32)(j0);
+  i1 = 65535u;
+  i0 &= i1;
+  j1 = l8;
+  i1 = (u32)(j1);
+  l39 = i1;
+  i2 = 16u;
+  i1 >>= (i2 & 31);
+  i0 += i1;
+  i1 = 256u;
+  i0 = i0 <= i1;
+  if (i0) {goto B53;}
+  i0 = 8u;
+  l20 = i0;
+  goto B51;
+  B53:;
+  j0 = l8;
+  j1 = 281474976710656ull;
+  j0 &= j1;
+  i0 = !(j0);
+  if (i0) {goto B50;}
+  j0 = p6;
+  j1 = l9;
+  j2 = 65535ull;
+  j1 &= j2;
+  j2 = l8;
+  j3 = 255ull;
+  j2 &= j3;
+  j1 *= j2;
+  i0 = j0 == j1;
+  if (i0) {goto B50;}
+  i0 = 10u;
+  l20 = i0;
+  B51:;
+  j0 = l7;
+  i0 = (u32)(j0);
+  i1 = 0u;
+  i32_store(j0 + 259, i1);
+  j0 = l7;
+  i0 = (u32)(j0);
+  i1 = 0u;
+  i32_store(j0 + 256, i1);
+  goto B2;
+  B50:;
+  j0 = l7;
+  j1 = 296ull;
   j0 += j1;
   i1 = l20;
-  j2 = l8;
-  i2 = (u32)(j2);
+  i2 = l39;
   i3 = 255u;
   i2 &= i3;
   f25(self, j0, i1, i2);
@@ -56707,41 +57054,41 @@ static void f62(module *self, u64 p0, u64 p1, u64 p2, u64 p3, u64 p4, u64 p5, u6
   l39 = i0;
   j0 = l7;
   i0 = (u32)(j0);
-  i0 = i32_load8_u(j0 + 320u);
+  i0 = i32_load8_u(j0 + 296u);
   i1 = 1u;
   i0 = i0 != i1;
-  if (i0) {goto B53;}
+  if (i0) {goto B55;}
   j0 = l7;
   i0 = (u32)(j0);
-  i0 = i32_load8_u(j0 + 391u);
+  i0 = i32_load8_u(j0 + 367u);
   l75 = i0;
   j0 = l7;
   i0 = (u32)(j0);
-  i0 = i32_load8_u(j0 + 392u);
+  i0 = i32_load8_u(j0 + 368u);
   l24 = i0;
   j0 = l7;
   i0 = (u32)(j0);
-  i0 = i32_load(j0 + 386u);
+  i0 = i32_load(j0 + 362u);
   l50 = i0;
   j0 = l7;
   i0 = (u32)(j0);
-  i0 = i32_load8_u(j0 + 359u);
+  i0 = i32_load8_u(j0 + 335u);
   l39 = i0;
   j0 = l7;
   i0 = (u32)(j0);
-  i0 = i32_load8_u(j0 + 357u);
+  i0 = i32_load8_u(j0 + 333u);
   l51 = i0;
   j0 = l7;
   i0 = (u32)(j0);
-  i0 = i32_load16_u(j0 + 396u);
+  i0 = i32_load16_u(j0 + 372u);
   l49 = i0;
   j0 = l7;
   i0 = (u32)(j0);
-  i0 = i32_load16_u(j0 + 394u);
+  i0 = i32_load16_u(j0 + 370u);
   l48 = i0;
   j0 = l7;
   i0 = (u32)(j0);
-  i0 = i32_load8_u(j0 + 348u);
+  i0 = i32_load8_u(j0 + 324u);
   l52 = i0;
   j0 = l8;
   j1 = p1;
@@ -56749,7 +57096,7 @@ static void f62(module *self, u64 p0, u64 p1, u64 p2, u64 p3, u64 p4, u64 p5, u6
   j3 = p5;
   j4 = l7;
   i4 = (u32)(j4);
-  i4 = i32_load8_u(j4 + 336u);
+  i4 = i32_load8_u(j4 + 312u);
   f63(self, j0, j1, j2, j3, i4);
   j0 = p1;
   i1 = l48;
@@ -56851,102 +57198,97 @@ static void f62(module *self, u64 p0, u64 p1, u64 p2, u64 p3, u64 p4, u64 p5, u6
   j0 = l7;
   i0 = (u32)(j0);
   i1 = 0u;
-  i32_store(j0 + 304, i1);
+  i32_store(j0 + 440, i1);
   j0 = l7;
   i0 = (u32)(j0);
   i1 = 0u;
-  i32_store(j0 + 307, i1);
+  i32_store(j0 + 443, i1);
   i0 = 0u;
   l20 = i0;
-  goto B52;
-  B53:;
+  goto B54;
+  B55:;
   j0 = l7;
   i0 = (u32)(j0);
   i1 = 0u;
-  i32_store(j0 + 307, i1);
+  i32_store(j0 + 443, i1);
   j0 = l7;
   i0 = (u32)(j0);
   i1 = 0u;
-  i32_store(j0 + 304, i1);
+  i32_store(j0 + 440, i1);
   j0 = 0ull;
   p4 = j0;
   i0 = 12u;
   l20 = i0;
-  B52:;
+  B54:;
   j0 = l7;
   i0 = (u32)(j0);
   j1 = l7;
   i1 = (u32)(j1);
-  i1 = i32_load(j1 + 304u);
-  i32_store(j0 + 264, i1);
+  i1 = i32_load(j1 + 440u);
+  i32_store(j0 + 256, i1);
   j0 = l7;
   i0 = (u32)(j0);
   j1 = l7;
   i1 = (u32)(j1);
-  i1 = i32_load(j1 + 307u);
-  i32_store(j0 + 267, i1);
+  i1 = i32_load(j1 + 443u);
+  i32_store(j0 + 259, i1);
   goto B1;
-  B51:;
-  j0 = l7;
-  i0 = (u32)(j0);
-  i1 = 0u;
-  i32_store(j0 + 267, i1);
-  j0 = l7;
-  i0 = (u32)(j0);
-  i1 = 0u;
-  i32_store(j0 + 264, i1);
-  i0 = l48;
-  i1 = 0u;
-  i2 = 10u;
-  i3 = 0u;
-  i4 = l49;
-  i2 = i4 ? i2 : i3;
-  i3 = l75;
-  i1 = i3 ? i1 : i2;
-  i2 = l39;
-  i0 = i2 ? i0 : i1;
-  l20 = i0;
-  goto B9;
   B11:;
   j0 = l7;
   i0 = (u32)(j0);
   j1 = l7;
   i1 = (u32)(j1);
-  i1 = i32_load8_u(j1 + 276u);
-  i32_store8(j0 + 420, i1);
+  i1 = i32_load8_u(j1 + 268u);
+  i32_store8(j0 + 396, i1);
   j0 = l7;
   i0 = (u32)(j0);
   j1 = l7;
   i1 = (u32)(j1);
-  j1 = i64_load(j1 + 277u);
-  i64_store(j0 + 421, j1);
+  j1 = i64_load(j1 + 269u);
+  i64_store(j0 + 397, j1);
   j0 = l7;
   i0 = (u32)(j0);
   j1 = l7;
   i1 = (u32)(j1);
-  i1 = i32_load(j1 + 284u);
-  i32_store(j0 + 428, i1);
+  i1 = i32_load(j1 + 276u);
+  i32_store(j0 + 404, i1);
   j0 = l7;
   i0 = (u32)(j0);
   j1 = 0ull;
-  i64_store(j0 + 408, j1);
+  i64_store(j0 + 384, j1);
   j0 = l7;
   i0 = (u32)(j0);
   i1 = 0u;
-  i32_store(j0 + 416, i1);
+  i32_store(j0 + 392, i1);
+  j0 = l7;
+  i0 = (u32)(j0);
+  j1 = 0ull;
+  i64_store(j0 + 296, j1);
+  j0 = l7;
+  i0 = (u32)(j0);
+  j1 = 0ull;
+  i64_store(j0 + 304, j1);
+  j0 = l7;
+  i0 = (u32)(j0);
+  j1 = 0ull;
+  i64_store(j0 + 312, j1);
+  j0 = l7;
+  i0 = (u32)(j0);
+  j1 = 0ull;
+  i64_store(j0 + 320, j1);
   j0 = p2;
   i0 = (u32)(j0);
   i0 = i32_load8_u(j0);
   l20 = i0;
-  if (i0) {goto B54;}
+  if (i0) {goto B56;}
   j0 = l7;
   i0 = (u32)(j0);
   i1 = 0u;
-  i32_store(j0 + 267, i1);
+  i32_store(j0 + 259, i1);
   j0 = l7;
   i0 = (u32)(j0);
   i1 = 0u;
-  i32_store(j0 + 264, i1);
+  i32_store(j0 + 256, i1);
   i0 = 2u;
   l20 = i0;
   i0 = 1u;
@@ -56954,76 +57296,98 @@ static void f62(module *self, u64 p0, u64 p1, u64 p2, u64 p3, u64 p4, u64 p5, u6
   j0 = 0ull;
   p4 = j0;
   goto B1;
-  B54:;
+  B56:;
   j0 = l7;
-  j1 = 408ull;
+  j1 = 384ull;
   j0 += j1;
   j1 = l7;
-  j2 = 420ull;
+  j2 = 396ull;
   j1 += j2;
   j2 = p2;
   f35(self, j0, j1, j2);
   j0 = l7;
-  j1 = 256ull;
+  j1 = 296ull;
   j0 += j1;
   j1 = l7;
-  j2 = 408ull;
+  j2 = 384ull;
   j1 += j2;
   j2 = p2;
   j3 = p6;
   f36(self, j0, j1, j2, j3);
-  j0 = l7;
-  i0 = (u32)(j0);
-  i0 = i32_load8_u(j0 + 256u);
-  if (i0) {goto B55;}
-  j0 = l7;
-  i0 = (u32)(j0);
-  j1 = p4;
-  i64_store(j0 + 432, j1);
-  j0 = l7;
-  i0 = (u32)(j0);
-  i0 = i32_load16_u(j0 + 410u);
-  l75 = i0;
-  j0 = l7;
-  i0 = (u32)(j0);
-  i0 = i32_load16_u(j0 + 412u);
+  i0 = 1u;
   l39 = i0;
   j0 = l7;
   i0 = (u32)(j0);
-  i0 = i32_load8_u(j0 + 417u);
+  i0 = i32_load8_u(j0 + 296u);
+  i1 = 1u;
+  i0 = i0 != i1;
+  if (i0) {goto B57;}
+  j0 = l7;
+  i0 = (u32)(j0);
+  i1 = 0u;
+  i32_store(j0 + 256, i1);
+  j0 = l7;
+  i0 = (u32)(j0);
+  i1 = 0u;
+  i32_store(j0 + 259, i1);
+  j0 = l7;
+  i0 = (u32)(j0);
+  j0 = i64_load8_u(j0 + 304u);
+  i0 = (u32)(j0);
+  i0 = i32_load8_u(j0 + 1051768u);
+  l20 = i0;
+  j0 = 0ull;
+  p4 = j0;
+  goto B1;
+  B57:;
+  j0 = l7;
+  i0 = (u32)(j0);
+  j1 = p4;
+  i64_store(j0 + 408, j1);
+  j0 = l7;
+  i0 = (u32)(j0);
+  i0 = i32_load16_u(j0 + 386u);
+  l75 = i0;
+  j0 = l7;
+  i0 = (u32)(j0);
+  i0 = i32_load16_u(j0 + 388u);
+  l39 = i0;
+  j0 = l7;
+  i0 = (u32)(j0);
+  i0 = i32_load8_u(j0 + 393u);
   l56 = i0;
   j0 = l7;
   i0 = (u32)(j0);
-  i0 = i32_load8_u(j0 + 418u);
+  i0 = i32_load8_u(j0 + 394u);
   l58 = i0;
   j0 = l7;
   i0 = (u32)(j0);
-  i0 = i32_load8_u(j0 + 419u);
+  i0 = i32_load8_u(j0 + 395u);
   l57 = i0;
   j0 = l7;
   i0 = (u32)(j0);
-  j0 = i64_load8_u(j0 + 408u);
+  j0 = i64_load8_u(j0 + 384u);
   l8 = j0;
   j0 = l7;
   i0 = (u32)(j0);
-  i0 = i32_load8_u(j0 + 409u);
+  i0 = i32_load8_u(j0 + 385u);
   l49 = i0;
   j0 = l7;
   i0 = (u32)(j0);
-  i0 = i32_load8_s(j0 + 414u);
+  i0 = i32_load8_s(j0 + 390u);
   l48 = i0;
   j0 = l7;
   i0 = (u32)(j0);
-  i0 = i32_load16_u(j0 + 415u);
+  i0 = i32_load16_u(j0 + 391u);
   l50 = i0;
   j0 = l7;
   i0 = (u32)(j0);
   i1 = 0u;
-  i32_store8(j0 + 446, i1);
+  i32_store8(j0 + 422, i1);
   j0 = l7;
   i0 = (u32)(j0);
   i1 = 0u;
-  i32_store16(j0 + 444, i1);
+  i32_store16(j0 + 420, i1);
   i0 = l48;
   i1 = 255u;
   i0 &= i1;
@@ -57042,25 +57406,25 @@ static void f62(module *self, u64 p0, u64 p1, u64 p2, u64 p3, u64 p4, u64 p5, u6
   j0 = l8;
   i0 = (u32)(j0);
   switch (i0) {
-    case 0: goto B72;
-    case 1: goto B71;
-    case 2: goto B70;
-    case 3: goto B69;
-    case 4: goto B68;
-    case 5: goto B67;
-    case 6: goto B66;
-    case 7: goto B65;
-    case 8: goto B64;
-    case 9: goto B63;
-    case 10: goto B62;
-    case 11: goto B61;
-    case 12: goto B60;
-    case 13: goto B59;
-    case 14: goto B58;
-    case 15: goto B57;
-    default: goto B72;
+    case 0: goto B74;
+    case 1: goto B73;
+    case 2: goto B72;
+    case 3: goto B71;
+    case 4: goto B70;
+    case 5: goto B69;
+    case 6: goto B68;
+    case 7: goto B67;
+    case 8: goto B66;
+    case 9: goto B65;
+    case 10: goto B64;
+    case 11: goto B63;
+    case 12: goto B62;
+    case 13: goto B61;
+    case 14: goto B60;
+    case 15: goto B59;
+    default: goto B74;
   }
-  B72:;
+  B74:;
   j0 = p1;
   j1 = p2;
   j2 = 28ull;
@@ -57084,8 +57448,8 @@ static void f62(module *self, u64 p0, u64 p1, u64 p2, u64 p3, u64 p4, u64 p5, u6
   i0 = (u32)(j0);
   i1 = l75;
   i32_store16(j0, i1);
-  goto B56;
-  B71:;
+  goto B58;
+  B73:;
   j0 = p2;
   j1 = l9;
   j2 = 1ull;
@@ -57101,7 +57465,7 @@ static void f62(module *self, u64 p0, u64 p1, u64 p2, u64 p3, u64 p4, u64 p5, u6
   i0 += i1;
   i1 = 251u;
   i0 &= i1;
-  if (i0) {goto B56;}
+  if (i0) {goto B58;}
   i0 = l49;
   j1 = p2;
   j2 = 26ull;
@@ -57109,7 +57473,7 @@ static void f62(module *self, u64 p0, u64 p1, u64 p2, u64 p3, u64 p4, u64 p5, u6
   i1 = (u32)(j1);
   i1 = i32_load8_u(j1);
   i0 = i0 != i1;
-  if (i0) {goto B56;}
+  if (i0) {goto B58;}
   j0 = p1;
   j1 = p2;
   j2 = 28ull;
@@ -57150,8 +57514,8 @@ static void f62(module *self, u64 p0, u64 p1, u64 p2, u64 p3, u64 p4, u64 p5, u6
   i2 = 15u;
   i3 = l20;
   f64(self, j0, i1, i2, i3);
-  goto B56;
-  B70:;
+  goto B58;
+  B72:;
   j0 = l7;
   i0 = (u32)(j0);
   j1 = p2;
@@ -57159,7 +57523,7 @@ static void f62(module *self, u64 p0, u64 p1, u64 p2, u64 p3, u64 p4, u64 p5, u6
   j1 += j2;
   i1 = (u32)(j1);
   i1 = i32_load16_u(j1);
-  i32_store16(j0 + 436, i1);
+  i32_store16(j0 + 412, i1);
   j0 = l7;
   i0 = (u32)(j0);
   j1 = p2;
@@ -57171,14 +57535,14 @@ static void f62(module *self, u64 p0, u64 p1, u64 p2, u64 p3, u64 p4, u64 p5, u6
   j1 += j2;
   i1 = (u32)(j1);
   i1 = i32_load16_u(j1);
-  i32_store16(j0 + 438, i1);
-  goto B56;
-  B69:;
+  i32_store16(j0 + 414, i1);
+  goto B58;
+  B71:;
   j0 = p1;
   j1 = p2;
   j2 = 28ull;
   j1 += j2;
-  p6 = j1;
+  p5 = j1;
   i1 = (u32)(j1);
   i1 = i32_load16_u(j1);
   l39 = i1;
@@ -57186,7 +57550,7 @@ static void f62(module *self, u64 p0, u64 p1, u64 p2, u64 p3, u64 p4, u64 p5, u6
   j3 = p2;
   j4 = 4ull;
   j3 += j4;
-  p5 = j3;
+  p6 = j3;
   i3 = (u32)(j3);
   i3 = i32_load16_u(j3);
   i4 = l49;
@@ -57227,14 +57591,14 @@ static void f62(module *self, u64 p0, u64 p1, u64 p2, u64 p3, u64 p4, u64 p5, u6
   i0 += i1;
   i1 = 251u;
   i0 &= i1;
-  if (i0) {goto B56;}
+  if (i0) {goto B58;}
   j0 = p1;
-  j1 = p6;
+  j1 = p5;
   i1 = (u32)(j1);
   i1 = i32_load16_u(j1);
   l39 = i1;
   i2 = 14u;
-  j3 = p5;
+  j3 = p6;
   i3 = (u32)(j3);
   i3 = i32_load16_u(j3);
   i4 = l49;
@@ -57273,16 +57637,16 @@ static void f62(module *self, u64 p0, u64 p1, u64 p2, u64 p3, u64 p4, u64 p5, u6
   i2 = 15u;
   i3 = l20;
   f64(self, j0, i1, i2, i3);
-  goto B56;
-  B68:;
+  goto B58;
+  B70:;
   j0 = l7;
   i0 = (u32)(j0);
   i1 = 0u;
-  i32_store(j0 + 312, i1);
+  i32_store(j0 + 432, i1);
   j0 = l7;
   i0 = (u32)(j0);
   j1 = 0ull;
-  i64_store(j0 + 304, j1);
+  i64_store(j0 + 424, j1);
   j0 = p2;
   j1 = 30ull;
   j0 += j1;
@@ -57303,7 +57667,7 @@ static void f62(module *self, u64 p0, u64 p1, u64 p2, u64 p3, u64 p4, u64 p5, u6
   i1 >>= (i2 & 31);
   l20 = i1;
   i0 = i0 < i1;
-  if (i0) {goto B56;}
+  if (i0) {goto B58;}
   j0 = p2;
   j1 = 2ull;
   j0 += j1;
@@ -57324,25 +57688,25 @@ static void f62(module *self, u64 p0, u64 p1, u64 p2, u64 p3, u64 p4, u64 p5, u6
   i1 &= i2;
   l39 = i1;
   i0 = i0 <= i1;
-  if (i0) {goto B56;}
+  if (i0) {goto B58;}
   j0 = l7;
   i0 = (u32)(j0);
   i1 = l75;
-  i32_store8(j0 + 312, i1);
+  i32_store8(j0 + 432, i1);
   j0 = l7;
   i0 = (u32)(j0);
   i1 = l39;
-  i32_store(j0 + 328, i1);
+  i32_store(j0 + 448, i1);
   j0 = l7;
   i0 = (u32)(j0);
   i1 = l24;
   i2 = l39;
   i1 -= i2;
-  i32_store(j0 + 332, i1);
+  i32_store(j0 + 452, i1);
   j0 = l7;
   i0 = (u32)(j0);
   i1 = l20;
-  i32_store(j0 + 320, i1);
+  i32_store(j0 + 440, i1);
   j0 = l7;
   i0 = (u32)(j0);
   i1 = l48;
@@ -57353,7 +57717,7 @@ static void f62(module *self, u64 p0, u64 p1, u64 p2, u64 p3, u64 p4, u64 p5, u6
   i2 = 1u;
   i1 += i2;
   l39 = i1;
-  i32_store(j0 + 324, i1);
+  i32_store(j0 + 444, i1);
   j0 = l7;
   i0 = (u32)(j0);
   i1 = l39;
@@ -57365,9 +57729,9 @@ static void f62(module *self, u64 p0, u64 p1, u64 p2, u64 p3, u64 p4, u64 p5, u6
   i2 = l39;
   i3 = l49;
   i1 = i3 ? i1 : i2;
-  i32_store(j0 + 308, i1);
+  i32_store(j0 + 428, i1);
   j0 = l7;
-  j1 = 320ull;
+  j1 = 440ull;
   j0 += j1;
   j1 = p1;
   j2 = p2;
@@ -57377,19 +57741,19 @@ static void f62(module *self, u64 p0, u64 p1, u64 p2, u64 p3, u64 p4, u64 p5, u6
   i3 = (u32)(j3);
   i3 = i32_load8_u(j3);
   j4 = l7;
-  j5 = 304ull;
+  j5 = 424ull;
   j4 += j5;
   f65(self, j0, j1, j2, i3, j4); if (NEVER(self->is_broken)) return;
-  goto B56;
-  B67:;
+  goto B58;
+  B69:;
   j0 = l7;
   i0 = (u32)(j0);
   i1 = 0u;
-  i32_store(j0 + 312, i1);
+  i32_store(j0 + 432, i1);
   j0 = l7;
   i0 = (u32)(j0);
   j1 = 0ull;
-  i64_store(j0 + 304, j1);
+  i64_store(j0 + 424, j1);
   j0 = p2;
   j1 = 30ull;
   j0 += j1;
@@ -57410,7 +57774,7 @@ static void f62(module *self, u64 p0, u64 p1, u64 p2, u64 p3, u64 p4, u64 p5, u6
   i1 >>= (i2 & 31);
   l20 = i1;
   i0 = i0 < i1;
-  if (i0) {goto B56;}
+  if (i0) {goto B58;}
   j0 = p2;
   j1 = 2ull;
   j0 += j1;
@@ -57431,29 +57795,29 @@ static void f62(module *self, u64 p0, u64 p1, u64 p2, u64 p3, u64 p4, u64 p5, u6
   i1 &= i2;
   l39 = i1;
   i0 = i0 <= i1;
-  if (i0) {goto B56;}
+  if (i0) {goto B58;}
   j0 = l7;
   i0 = (u32)(j0);
   i1 = l75;
-  i32_store8(j0 + 312, i1);
+  i32_store8(j0 + 432, i1);
   j0 = l7;
   i0 = (u32)(j0);
   i1 = l39;
-  i32_store(j0 + 328, i1);
+  i32_store(j0 + 448, i1);
   j0 = l7;
   i0 = (u32)(j0);
   i1 = l24;
   i2 = l39;
   i1 -= i2;
-  i32_store(j0 + 332, i1);
+  i32_store(j0 + 452, i1);
   j0 = l7;
   i0 = (u32)(j0);
   i1 = l20;
-  i32_store(j0 + 320, i1);
+  i32_store(j0 + 440, i1);
   j0 = l7;
   i0 = (u32)(j0);
   i1 = 1u;
-  i32_store8(j0 + 304, i1);
+  i32_store8(j0 + 424, i1);
   j0 = l7;
   i0 = (u32)(j0);
   i1 = l48;
@@ -57464,7 +57828,7 @@ static void f62(module *self, u64 p0, u64 p1, u64 p2, u64 p3, u64 p4, u64 p5, u6
   i2 = 1u;
   i1 += i2;
   l39 = i1;
-  i32_store(j0 + 324, i1);
+  i32_store(j0 + 444, i1);
   j0 = l7;
   i0 = (u32)(j0);
   i1 = l39;
@@ -57476,9 +57840,9 @@ static void f62(module *self, u64 p0, u64 p1, u64 p2, u64 p3, u64 p4, u64 p5, u6
   i2 = l39;
   i3 = l49;
   i1 = i3 ? i1 : i2;
-  i32_store(j0 + 308, i1);
+  i32_store(j0 + 428, i1);
   j0 = l7;
-  j1 = 320ull;
+  j1 = 440ull;
   j0 += j1;
   j1 = p1;
   j2 = p2;
@@ -57488,11 +57852,11 @@ static void f62(module *self, u64 p0, u64 p1, u64 p2, u64 p3, u64 p4, u64 p5, u6
   i3 = (u32)(j3);
   i3 = i32_load8_u(j3);
   j4 = l7;
-  j5 = 304ull;
+  j5 = 424ull;
   j4 += j5;
   f65(self, j0, j1, j2, i3, j4); if (NEVER(self->is_broken)) return;
-  goto B56;
-  B66:;
+  goto B58;
+  B68:;
   j0 = p2;
   j1 = l9;
   j2 = 1ull;
@@ -57522,7 +57886,7 @@ static void f62(module *self, u64 p0, u64 p1, u64 p2, u64 p3, u64 p4, u64 p5, u6
   i0 += i1;
   i1 = 251u;
   i0 &= i1;
-  if (i0) {goto B73;}
+  if (i0) {goto B75;}
   j0 = l7;
   j1 = 80ull;
   j0 += j1;
@@ -57587,12 +57951,12 @@ static void f62(module *self, u64 p0, u64 p1, u64 p2, u64 p3, u64 p4, u64 p5, u6
   i3 = 255u;
   i2 &= i3;
   i1 |= i2;
-  i32_store16(j0 + 432, i1);
-  goto B56;
-  B73:;
+  i32_store16(j0 + 408, i1);
+  goto B58;
+  B75:;
   i0 = l39;
   i0 = !(i0);
-  if (i0) {goto B76;}
+  if (i0) {goto B78;}
   i0 = 1u;
   l24 = i0;
   i0 = 0u;
@@ -57603,43 +57967,43 @@ static void f62(module *self, u64 p0, u64 p1, u64 p2, u64 p3, u64 p4, u64 p5, u6
   i1 = 4294967293u;
   i0 += i1;
   switch (i0) {
-    case 0: goto B75;
-    case 1: goto B74;
-    case 2: goto B74;
-    case 3: goto B74;
-    case 4: goto B75;
-    case 5: goto B74;
-    case 6: goto B74;
-    case 7: goto B74;
-    case 8: goto B74;
-    case 9: goto B74;
-    case 10: goto B74;
-    case 11: goto B74;
-    case 12: goto B74;
-    case 13: goto B74;
-    case 14: goto B74;
-    case 15: goto B74;
-    case 16: goto B77;
-    default: goto B74;
+    case 0: goto B77;
+    case 1: goto B76;
+    case 2: goto B76;
+    case 3: goto B76;
+    case 4: goto B77;
+    case 5: goto B76;
+    case 6: goto B76;
+    case 7: goto B76;
+    case 8: goto B76;
+    case 9: goto B76;
+    case 10: goto B76;
+    case 11: goto B76;
+    case 12: goto B76;
+    case 13: goto B76;
+    case 14: goto B76;
+    case 15: goto B76;
+    case 16: goto B79;
+    default: goto B76;
   }
-  B77:;
+  B79:;
   i0 = 8u;
   l75 = i0;
   i0 = 0u;
   l50 = i0;
   i0 = 0u;
   l24 = i0;
-  goto B74;
-  B76:;
+  goto B76;
+  B78:;
   { self->is_broken = true; return; }
-  B75:;
+  B77:;
   i0 = 2u;
   l75 = i0;
   i0 = 0u;
   l24 = i0;
   i0 = 1u;
   l50 = i0;
-  B74:;
+  B76:;
   j0 = p2;
   j1 = 4ull;
   j0 += j1;
@@ -57676,7 +58040,7 @@ static void f62(module *self, u64 p0, u64 p1, u64 p2, u64 p3, u64 p4, u64 p5, u6
   i0 *= i1;
   l48 = i0;
   i0 = l50;
-  if (i0) {goto B81;}
+  if (i0) {goto B83;}
   j0 = p2;
   j1 = 32ull;
   j0 += j1;
@@ -57684,39 +58048,39 @@ static void f62(module *self, u64 p0, u64 p1, u64 p2, u64 p3, u64 p4, u64 p5, u6
   i0 = i32_load16_u(j0);
   l44 = i0;
   j0 = (u64)(i0);
-  p6 = j0;
+  p5 = j0;
   j0 = l7;
   i0 = (u32)(j0);
   j1 = 0ull;
-  i64_store(j0 + 328, j1);
+  i64_store(j0 + 448, j1);
   j0 = l7;
   i0 = (u32)(j0);
   j1 = 0ull;
-  i64_store(j0 + 320, j1);
+  i64_store(j0 + 440, j1);
   i0 = l24;
-  if (i0) {goto B80;}
+  if (i0) {goto B82;}
   i0 = l44;
-  if (i0) {goto B79;}
+  if (i0) {goto B81;}
   i0 = 0u;
   l44 = i0;
-  goto B78;
-  B81:;
+  goto B80;
+  B83:;
   j0 = l7;
   i0 = (u32)(j0);
   j1 = 0ull;
-  i64_store(j0 + 328, j1);
+  i64_store(j0 + 448, j1);
   j0 = l7;
   i0 = (u32)(j0);
   j1 = 0ull;
-  i64_store(j0 + 320, j1);
+  i64_store(j0 + 440, j1);
   i0 = 1u;
   l44 = i0;
   j0 = 1ull;
-  p6 = j0;
+  p5 = j0;
   i0 = l24;
   i0 = !(i0);
-  if (i0) {goto B78;}
-  B80:;
+  if (i0) {goto B80;}
+  B82:;
   j0 = p1;
   j1 = 57ull;
   j0 += j1;
@@ -57805,18 +58169,18 @@ static void f62(module *self, u64 p0, u64 p1, u64 p2, u64 p3, u64 p4, u64 p5, u6
   j1 = (u64)(i1);
   j2 = 2ull;
   j1 <<= (j2 & 63);
-  p5 = j1;
+  p6 = j1;
   i1 = (u32)(j1);
-  i1 = i32_load(j1 + 1051784u);
+  i1 = i32_load(j1 + 1051804u);
   i32_store(j0, i1);
   j0 = p1;
   j1 = 60ull;
   j0 += j1;
   l15 = j0;
   i0 = (u32)(j0);
-  j1 = p5;
+  j1 = p6;
   i1 = (u32)(j1);
-  i1 = i32_load(j1 + 1051768u);
+  i1 = i32_load(j1 + 1051788u);
   i32_store(j0, i1);
   j0 = p1;
   j1 = 72ull;
@@ -57858,7 +58222,7 @@ static void f62(module *self, u64 p0, u64 p1, u64 p2, u64 p3, u64 p4, u64 p5, u6
   i32_store8(j0, i1);
   i0 = l44;
   i0 = !(i0);
-  if (i0) {goto B82;}
+  if (i0) {goto B84;}
   i0 = l49;
   i1 = l48;
   i0 += i1;
@@ -57868,19 +58232,19 @@ static void f62(module *self, u64 p0, u64 p1, u64 p2, u64 p3, u64 p4, u64 p5, u6
   i0 *= i1;
   l48 = i0;
   j0 = 0ull;
-  p5 = j0;
+  p6 = j0;
   j0 = l7;
-  j1 = 320ull;
+  j1 = 440ull;
   j0 += j1;
   l8 = j0;
-  L83: 
+  L85: 
     j0 = l7;
     j1 = 88ull;
     j0 += j1;
     j1 = p1;
     i2 = l39;
     i3 = l48;
-    j4 = p5;
+    j4 = p6;
     i4 = (u32)(j4);
     i3 += i4;
     i4 = l20;
@@ -57904,17 +58268,17 @@ static void f62(module *self, u64 p0, u64 p1, u64 p2, u64 p3, u64 p4, u64 p5, u6
     j1 = 1ull;
     j0 += j1;
     l8 = j0;
-    j0 = p5;
+    j0 = p6;
     j1 = 1ull;
     j0 += j1;
-    p5 = j0;
-    j0 = p6;
+    p6 = j0;
+    j0 = p5;
     j1 = 18446744073709551615ull;
     j0 += j1;
-    p6 = j0;
+    p5 = j0;
     i0 = !(j0);
     i0 = !(i0);
-    if (i0) {goto L83;}
+    if (i0) {goto L85;}
   j0 = p1;
   j1 = 70ull;
   j0 += j1;
@@ -57940,7 +58304,7 @@ static void f62(module *self, u64 p0, u64 p1, u64 p2, u64 p3, u64 p4, u64 p5, u6
   i1 = 2u;
   i0 >>= (i1 & 31);
   l50 = i0;
-  B82:;
+  B84:;
   j0 = l12;
   i0 = (u32)(j0);
   i1 = 0u;
@@ -57983,13 +58347,13 @@ static void f62(module *self, u64 p0, u64 p1, u64 p2, u64 p3, u64 p4, u64 p5, u6
   j1 <<= (j2 & 63);
   p1 = j1;
   i1 = (u32)(j1);
-  i1 = i32_load(j1 + 1051784u);
+  i1 = i32_load(j1 + 1051804u);
   i32_store(j0, i1);
   j0 = l15;
   i0 = (u32)(j0);
   j1 = p1;
   i1 = (u32)(j1);
-  i1 = i32_load(j1 + 1051768u);
+  i1 = i32_load(j1 + 1051788u);
   i32_store(j0, i1);
   j0 = l16;
   i0 = (u32)(j0);
@@ -58017,8 +58381,8 @@ static void f62(module *self, u64 p0, u64 p1, u64 p2, u64 p3, u64 p4, u64 p5, u6
   i2 = !(i2);
   i1 &= i2;
   i32_store8(j0, i1);
-  goto B78;
-  B79:;
+  goto B80;
+  B81:;
   i0 = l49;
   i1 = l48;
   i0 += i1;
@@ -58028,19 +58392,19 @@ static void f62(module *self, u64 p0, u64 p1, u64 p2, u64 p3, u64 p4, u64 p5, u6
   i0 *= i1;
   l43 = i0;
   j0 = 0ull;
-  p5 = j0;
+  p6 = j0;
   j0 = l7;
-  j1 = 320ull;
+  j1 = 440ull;
   j0 += j1;
   l8 = j0;
-  L84: 
+  L86: 
     j0 = l7;
     j1 = 152ull;
     j0 += j1;
     j1 = p1;
     i2 = l25;
     i3 = l43;
-    j4 = p5;
+    j4 = p6;
     i4 = (u32)(j4);
     i3 += i4;
     i4 = l20;
@@ -58244,18 +58608,18 @@ static void f62(module *self, u64 p0, u64 p1, u64 p2, u64 p3, u64 p4, u64 p5, u6
     j1 = 1ull;
     j0 += j1;
     l8 = j0;
-    j0 = p5;
+    j0 = p6;
     j1 = 1ull;
     j0 += j1;
-    p5 = j0;
-    j0 = p6;
+    p6 = j0;
+    j0 = p5;
     j1 = 18446744073709551615ull;
     j0 += j1;
-    p6 = j0;
+    p5 = j0;
     i0 = !(j0);
     i0 = !(i0);
-    if (i0) {goto L84;}
-  B78:;
+    if (i0) {goto L86;}
+  B80:;
   j0 = l7;
   i0 = (u32)(j0);
   i1 = l51;
@@ -58264,31 +58628,31 @@ static void f62(module *self, u64 p0, u64 p1, u64 p2, u64 p3, u64 p4, u64 p5, u6
   j2 = p3;
   i3 = l44;
   j4 = l7;
-  j5 = 320ull;
+  j5 = 440ull;
   j4 += j5;
   i2 = f41(self, j2, i3, j4); if (NEVER(self->is_broken)) return;
   i3 = 255u;
   i2 &= i3;
   i1 |= i2;
-  i32_store16(j0 + 432, i1);
-  goto B56;
-  B65:;
+  i32_store16(j0 + 408, i1);
+  goto B58;
+  B67:;
   j0 = l7;
   i0 = (u32)(j0);
   j1 = 0ull;
-  i64_store(j0 + 336, j1);
+  i64_store(j0 + 456, j1);
   j0 = l7;
   i0 = (u32)(j0);
   j1 = p3;
-  i64_store(j0 + 320, j1);
+  i64_store(j0 + 440, j1);
   j0 = l7;
   i0 = (u32)(j0);
   i1 = l75;
-  i32_store8(j0 + 336, i1);
+  i32_store8(j0 + 456, i1);
   j0 = l7;
   i0 = (u32)(j0);
   j1 = p2;
-  i64_store(j0 + 328, j1);
+  i64_store(j0 + 448, j1);
   i0 = l50;
   i1 = 8u;
   i0 <<= (i1 & 31);
@@ -58298,7 +58662,7 @@ static void f62(module *self, u64 p0, u64 p1, u64 p2, u64 p3, u64 p4, u64 p5, u6
   i0 &= i1;
   l48 = i0;
   i0 = !(i0);
-  if (i0) {goto B56;}
+  if (i0) {goto B58;}
   j0 = p2;
   i1 = l75;
   i2 = 1u;
@@ -58333,10 +58697,10 @@ static void f62(module *self, u64 p0, u64 p1, u64 p2, u64 p3, u64 p4, u64 p5, u6
   i1 = 8u;
   i0 >>= (i1 & 31);
   l75 = i0;
-  L85: 
+  L87: 
     j0 = p1;
     j1 = l7;
-    j2 = 320ull;
+    j2 = 440ull;
     j1 += j2;
     i2 = l20;
     i3 = l75;
@@ -58351,10 +58715,10 @@ static void f62(module *self, u64 p0, u64 p1, u64 p2, u64 p3, u64 p4, u64 p5, u6
     i1 = 4294967295u;
     i0 += i1;
     l48 = i0;
-    if (i0) {goto L85;}
-    goto B56;
+    if (i0) {goto L87;}
+    goto B58;
   { self->is_broken = true; return; }
-  B64:;
+  B66:;
   j0 = p2;
   j1 = 2ull;
   j0 += j1;
@@ -58370,7 +58734,7 @@ static void f62(module *self, u64 p0, u64 p1, u64 p2, u64 p3, u64 p4, u64 p5, u6
   i0 = l20;
   i1 = 19u;
   i0 = i0 != i1;
-  if (i0) {goto B87;}
+  if (i0) {goto B89;}
   i0 = l39;
   i1 = l24;
   i0 *= i1;
@@ -58379,8 +58743,8 @@ static void f62(module *self, u64 p0, u64 p1, u64 p2, u64 p3, u64 p4, u64 p5, u6
   i1 = l75;
   i0 += i1;
   l39 = i0;
-  goto B86;
-  B87:;
+  goto B88;
+  B89:;
   i0 = l24;
   i1 = l39;
   i0 *= i1;
@@ -58389,7 +58753,7 @@ static void f62(module *self, u64 p0, u64 p1, u64 p2, u64 p3, u64 p4, u64 p5, u6
   i1 >>= (i2 & 31);
   i0 += i1;
   l39 = i0;
-  B86:;
+  B88:;
   i0 = l50;
   i1 = l49;
   i0 *= i1;
@@ -58411,7 +58775,7 @@ static void f62(module *self, u64 p0, u64 p1, u64 p2, u64 p3, u64 p4, u64 p5, u6
   i0 = l20;
   i1 = 19u;
   i0 = i0 != i1;
-  if (i0) {goto B88;}
+  if (i0) {goto B90;}
   j0 = p1;
   j1 = 2003ull;
   j0 += j1;
@@ -58420,7 +58784,7 @@ static void f62(module *self, u64 p0, u64 p1, u64 p2, u64 p3, u64 p4, u64 p5, u6
   i1 = 2u;
   i0 &= i1;
   i0 = !(i0);
-  if (i0) {goto B56;}
+  if (i0) {goto B58;}
   i0 = l49;
   j1 = p1;
   j2 = 60ull;
@@ -58435,7 +58799,7 @@ static void f62(module *self, u64 p0, u64 p1, u64 p2, u64 p3, u64 p4, u64 p5, u6
   i1 = (u32)(j1);
   i1 = i32_load(j1);
   i0 = i0 >= i1;
-  if (i0) {goto B56;}
+  if (i0) {goto B58;}
   j0 = p1;
   j1 = 71ull;
   j0 += j1;
@@ -58472,15 +58836,15 @@ static void f62(module *self, u64 p0, u64 p1, u64 p2, u64 p3, u64 p4, u64 p5, u6
   i1 = 1u;
   i0 &= i1;
   i0 = !(i0);
-  if (i0) {goto B90;}
+  if (i0) {goto B92;}
   i0 = 134480385u;
   i1 = l39;
   i2 = 3u;
   i1 <<= (i2 & 31);
   i0 >>= (i1 & 31);
   l24 = i0;
-  goto B89;
-  B90:;
+  goto B91;
+  B92:;
   i0 = 15u;
   i1 = 10u;
   i2 = 5u;
@@ -58493,7 +58857,7 @@ static void f62(module *self, u64 p0, u64 p1, u64 p2, u64 p3, u64 p4, u64 p5, u6
   i2 &= i3;
   i0 = i2 ? i0 : i1;
   l24 = i0;
-  B89:;
+  B91:;
   j0 = p1;
   i0 = (u32)(j0);
   j0 = i64_load(j0);
@@ -58542,8 +58906,8 @@ static void f62(module *self, u64 p0, u64 p1, u64 p2, u64 p3, u64 p4, u64 p5, u6
   i2 = l39;
   i1 ^= i2;
   i32_store(j0, i1);
-  goto B56;
-  B88:;
+  goto B58;
+  B90:;
   j0 = p1;
   j1 = 57ull;
   j0 += j1;
@@ -58585,9 +58949,9 @@ static void f62(module *self, u64 p0, u64 p1, u64 p2, u64 p3, u64 p4, u64 p5, u6
   j0 = p1;
   j1 = 68ull;
   j0 += j1;
-  p6 = j0;
+  p5 = j0;
   i0 = (u32)(j0);
-  j1 = p6;
+  j1 = p5;
   i1 = (u32)(j1);
   i1 = i32_load8_u(j1);
   i2 = 1u;
@@ -58596,9 +58960,9 @@ static void f62(module *self, u64 p0, u64 p1, u64 p2, u64 p3, u64 p4, u64 p5, u6
   j0 = p1;
   j1 = 70ull;
   j0 += j1;
-  p5 = j0;
+  p6 = j0;
   i0 = (u32)(j0);
-  j1 = p5;
+  j1 = p6;
   i1 = (u32)(j1);
   i1 = i32_load8_u(j1);
   i2 = 1u;
@@ -58652,7 +59016,7 @@ static void f62(module *self, u64 p0, u64 p1, u64 p2, u64 p3, u64 p4, u64 p5, u6
   j1 <<= (j2 & 63);
   l8 = j1;
   i1 = (u32)(j1);
-  i1 = i32_load(j1 + 1051784u);
+  i1 = i32_load(j1 + 1051804u);
   i32_store(j0, i1);
   j0 = p1;
   j1 = 60ull;
@@ -58661,12 +59025,12 @@ static void f62(module *self, u64 p0, u64 p1, u64 p2, u64 p3, u64 p4, u64 p5, u6
   i0 = (u32)(j0);
   j1 = l8;
   i1 = (u32)(j1);
-  i1 = i32_load(j1 + 1051768u);
+  i1 = i32_load(j1 + 1051788u);
   i32_store(j0, i1);
   i0 = l48;
   i1 = 4294967295u;
   i0 = (u32)((s32)i0 > (s32)i1);
-  if (i0) {goto B91;}
+  if (i0) {goto B93;}
   j0 = p2;
   i0 = (u32)(j0);
   i1 = 3u;
@@ -58675,13 +59039,13 @@ static void f62(module *self, u64 p0, u64 p1, u64 p2, u64 p3, u64 p4, u64 p5, u6
   i0 = (u32)(j0);
   j1 = l8;
   i1 = (u32)(j1);
-  i1 = i32_load(j1 + 1051784u);
+  i1 = i32_load(j1 + 1051804u);
   i32_store(j0, i1);
   j0 = p3;
   i0 = (u32)(j0);
   j1 = l8;
   i1 = (u32)(j1);
-  i1 = i32_load(j1 + 1051768u);
+  i1 = i32_load(j1 + 1051788u);
   i32_store(j0, i1);
   j0 = p1;
   j1 = 50ull;
@@ -58695,7 +59059,7 @@ static void f62(module *self, u64 p0, u64 p1, u64 p2, u64 p3, u64 p4, u64 p5, u6
   i2 = 24u;
   i1 &= i2;
   i32_store8(j0, i1);
-  B91:;
+  B93:;
   j0 = l7;
   j1 = 160ull;
   j0 += j1;
@@ -58725,9 +59089,9 @@ static void f62(module *self, u64 p0, u64 p1, u64 p2, u64 p3, u64 p4, u64 p5, u6
   i1 &= i2;
   l51 = i1;
   i32_store8(j0, i1);
-  j0 = p6;
+  j0 = p5;
   i0 = (u32)(j0);
-  j1 = p6;
+  j1 = p5;
   i1 = (u32)(j1);
   i1 = i32_load8_u(j1);
   l52 = i1;
@@ -58735,9 +59099,9 @@ static void f62(module *self, u64 p0, u64 p1, u64 p2, u64 p3, u64 p4, u64 p5, u6
   i1 &= i2;
   l75 = i1;
   i32_store8(j0, i1);
-  j0 = p5;
+  j0 = p6;
   i0 = (u32)(j0);
-  j1 = p5;
+  j1 = p6;
   i1 = (u32)(j1);
   i1 = i32_load8_u(j1);
   l69 = i1;
@@ -58768,16 +59132,16 @@ static void f62(module *self, u64 p0, u64 p1, u64 p2, u64 p3, u64 p4, u64 p5, u6
   j1 = (u64)(i1);
   j2 = 2ull;
   j1 <<= (j2 & 63);
-  p6 = j1;
+  p5 = j1;
   i1 = (u32)(j1);
-  i1 = i32_load(j1 + 1051784u);
+  i1 = i32_load(j1 + 1051804u);
   l56 = i1;
   i32_store(j0, i1);
   j0 = p3;
   i0 = (u32)(j0);
-  j1 = p6;
+  j1 = p5;
   i1 = (u32)(j1);
-  i1 = i32_load(j1 + 1051768u);
+  i1 = i32_load(j1 + 1051788u);
   l57 = i1;
   i32_store(j0, i1);
   j0 = l10;
@@ -58822,7 +59186,7 @@ static void f62(module *self, u64 p0, u64 p1, u64 p2, u64 p3, u64 p4, u64 p5, u6
   l49 = i0;
   i1 = l56;
   i0 = i0 >= i1;
-  if (i0) {goto B92;}
+  if (i0) {goto B94;}
   j0 = p1;
   j1 = 2003ull;
   j0 += j1;
@@ -58831,7 +59195,7 @@ static void f62(module *self, u64 p0, u64 p1, u64 p2, u64 p3, u64 p4, u64 p5, u6
   i1 = 2u;
   i0 &= i1;
   i0 = !(i0);
-  if (i0) {goto B92;}
+  if (i0) {goto B94;}
   j0 = p1;
   j1 = 71ull;
   j0 += j1;
@@ -58847,15 +59211,15 @@ static void f62(module *self, u64 p0, u64 p1, u64 p2, u64 p3, u64 p4, u64 p5, u6
   i1 = 1u;
   i0 &= i1;
   i0 = !(i0);
-  if (i0) {goto B94;}
+  if (i0) {goto B96;}
   i0 = 134480385u;
   i1 = l49;
   i2 = 3u;
   i1 <<= (i2 & 31);
   i0 >>= (i1 & 31);
   l75 = i0;
-  goto B93;
-  B94:;
+  goto B95;
+  B96:;
   i0 = 15u;
   i1 = 10u;
   i2 = 5u;
@@ -58868,7 +59232,7 @@ static void f62(module *self, u64 p0, u64 p1, u64 p2, u64 p3, u64 p4, u64 p5, u6
   i2 &= i3;
   i0 = i2 ? i0 : i1;
   l75 = i0;
-  B93:;
+  B95:;
   j0 = p1;
   i0 = (u32)(j0);
   j0 = i64_load(j0);
@@ -58893,10 +59257,10 @@ static void f62(module *self, u64 p0, u64 p1, u64 p2, u64 p3, u64 p4, u64 p5, u6
   j2 = 2ull;
   j1 <<= (j2 & 63);
   j0 += j1;
-  p6 = j0;
+  p5 = j0;
   i0 = (u32)(j0);
   i1 = l20;
-  j2 = p6;
+  j2 = p5;
   i2 = (u32)(j2);
   i2 = i32_load(j2);
   l49 = i2;
@@ -58954,7 +59318,7 @@ static void f62(module *self, u64 p0, u64 p1, u64 p2, u64 p3, u64 p4, u64 p5, u6
   i0 = (u32)(j0);
   i0 = i32_load8_u(j0);
   l39 = i0;
-  B92:;
+  B94:;
   j0 = p1;
   j1 = 52ull;
   j0 += j1;
@@ -58968,7 +59332,7 @@ static void f62(module *self, u64 p0, u64 p1, u64 p2, u64 p3, u64 p4, u64 p5, u6
   i0 = l48;
   i1 = 4294967295u;
   i0 = (u32)((s32)i0 > (s32)i1);
-  if (i0) {goto B95;}
+  if (i0) {goto B97;}
   j0 = p1;
   j1 = 50ull;
   j0 += j1;
@@ -58977,7 +59341,7 @@ static void f62(module *self, u64 p0, u64 p1, u64 p2, u64 p3, u64 p4, u64 p5, u6
   i32_store8(j0, i1);
   i0 = 0u;
   l39 = i0;
-  B95:;
+  B97:;
   j0 = p1;
   j1 = 57ull;
   j0 += j1;
@@ -59037,17 +59401,17 @@ static void f62(module *self, u64 p0, u64 p1, u64 p2, u64 p3, u64 p4, u64 p5, u6
   j1 = (u64)(i1);
   j2 = 2ull;
   j1 <<= (j2 & 63);
-  p6 = j1;
+  p5 = j1;
   i1 = (u32)(j1);
-  i1 = i32_load(j1 + 1051784u);
+  i1 = i32_load(j1 + 1051804u);
   i32_store(j0, i1);
   j0 = p1;
   j1 = 60ull;
   j0 += j1;
   i0 = (u32)(j0);
-  j1 = p6;
+  j1 = p5;
   i1 = (u32)(j1);
-  i1 = i32_load(j1 + 1051768u);
+  i1 = i32_load(j1 + 1051788u);
   i32_store(j0, i1);
   j0 = p1;
   j1 = 72ull;
@@ -59072,8 +59436,8 @@ static void f62(module *self, u64 p0, u64 p1, u64 p2, u64 p3, u64 p4, u64 p5, u6
   i2 = !(i2);
   i1 &= i2;
   i32_store8(j0, i1);
-  goto B56;
-  B63:;
+  goto B58;
+  B65:;
   j0 = p2;
   j1 = 2ull;
   j0 += j1;
@@ -59089,7 +59453,7 @@ static void f62(module *self, u64 p0, u64 p1, u64 p2, u64 p3, u64 p4, u64 p5, u6
   i0 = l20;
   i1 = 19u;
   i0 = i0 != i1;
-  if (i0) {goto B97;}
+  if (i0) {goto B99;}
   i0 = l39;
   i1 = l48;
   i0 *= i1;
@@ -59098,8 +59462,8 @@ static void f62(module *self, u64 p0, u64 p1, u64 p2, u64 p3, u64 p4, u64 p5, u6
   i1 = l75;
   i0 += i1;
   l39 = i0;
-  goto B96;
-  B97:;
+  goto B98;
+  B99:;
   i0 = l48;
   i1 = l39;
   i0 *= i1;
@@ -59108,7 +59472,7 @@ static void f62(module *self, u64 p0, u64 p1, u64 p2, u64 p3, u64 p4, u64 p5, u6
   i1 >>= (i2 & 31);
   i0 += i1;
   l39 = i0;
-  B96:;
+  B98:;
   i0 = l24;
   i1 = l49;
   i0 *= i1;
@@ -59130,7 +59494,7 @@ static void f62(module *self, u64 p0, u64 p1, u64 p2, u64 p3, u64 p4, u64 p5, u6
   i0 = l20;
   i1 = 19u;
   i0 = i0 != i1;
-  if (i0) {goto B99;}
+  if (i0) {goto B101;}
   j0 = l7;
   j1 = 168ull;
   j0 += j1;
@@ -59146,8 +59510,8 @@ static void f62(module *self, u64 p0, u64 p1, u64 p2, u64 p3, u64 p4, u64 p5, u6
   i2 = i32_load8_u(j2 + 168u);
   i0 = i2 ? i0 : i1;
   l39 = i0;
-  goto B98;
-  B99:;
+  goto B100;
+  B101:;
   j0 = p1;
   j1 = 51ull;
   j0 += j1;
@@ -59172,9 +59536,9 @@ static void f62(module *self, u64 p0, u64 p1, u64 p2, u64 p3, u64 p4, u64 p5, u6
   j0 = p1;
   j1 = 68ull;
   j0 += j1;
-  p6 = j0;
+  p5 = j0;
   i0 = (u32)(j0);
-  j1 = p6;
+  j1 = p5;
   i1 = (u32)(j1);
   i1 = i32_load8_u(j1);
   i2 = 1u;
@@ -59183,9 +59547,9 @@ static void f62(module *self, u64 p0, u64 p1, u64 p2, u64 p3, u64 p4, u64 p5, u6
   j0 = p1;
   j1 = 70ull;
   j0 += j1;
-  p5 = j0;
+  p6 = j0;
   i0 = (u32)(j0);
-  j1 = p5;
+  j1 = p6;
   i1 = (u32)(j1);
   i1 = i32_load8_u(j1);
   i2 = 1u;
@@ -59240,7 +59604,7 @@ static void f62(module *self, u64 p0, u64 p1, u64 p2, u64 p3, u64 p4, u64 p5, u6
   j1 <<= (j2 & 63);
   l14 = j1;
   i1 = (u32)(j1);
-  i1 = i32_load(j1 + 1051784u);
+  i1 = i32_load(j1 + 1051804u);
   i32_store(j0, i1);
   j0 = p1;
   j1 = 60ull;
@@ -59249,7 +59613,7 @@ static void f62(module *self, u64 p0, u64 p1, u64 p2, u64 p3, u64 p4, u64 p5, u6
   i0 = (u32)(j0);
   j1 = l14;
   i1 = (u32)(j1);
-  i1 = i32_load(j1 + 1051768u);
+  i1 = i32_load(j1 + 1051788u);
   i32_store(j0, i1);
   j0 = p1;
   j1 = 72ull;
@@ -59324,17 +59688,17 @@ static void f62(module *self, u64 p0, u64 p1, u64 p2, u64 p3, u64 p4, u64 p5, u6
   i2 = 1u;
   i1 &= i2;
   i32_store8(j0, i1);
-  j0 = p6;
+  j0 = p5;
   i0 = (u32)(j0);
-  j1 = p6;
+  j1 = p5;
   i1 = (u32)(j1);
   i1 = i32_load8_u(j1);
   i2 = 1u;
   i1 &= i2;
   i32_store8(j0, i1);
-  j0 = p5;
+  j0 = p6;
   i0 = (u32)(j0);
-  j1 = p5;
+  j1 = p6;
   i1 = (u32)(j1);
   i1 = i32_load8_u(j1);
   i2 = 1u;
@@ -59374,13 +59738,13 @@ static void f62(module *self, u64 p0, u64 p1, u64 p2, u64 p3, u64 p4, u64 p5, u6
   j1 <<= (j2 & 63);
   l19 = j1;
   i1 = (u32)(j1);
-  i1 = i32_load(j1 + 1051784u);
+  i1 = i32_load(j1 + 1051804u);
   i32_store(j0, i1);
   j0 = l13;
   i0 = (u32)(j0);
   j1 = l19;
   i1 = (u32)(j1);
-  i1 = i32_load(j1 + 1051768u);
+  i1 = i32_load(j1 + 1051788u);
   i32_store(j0, i1);
   j0 = l14;
   i0 = (u32)(j0);
@@ -59440,17 +59804,17 @@ static void f62(module *self, u64 p0, u64 p1, u64 p2, u64 p3, u64 p4, u64 p5, u6
   i2 = 2u;
   i1 &= i2;
   i32_store8(j0, i1);
-  j0 = p6;
+  j0 = p5;
   i0 = (u32)(j0);
-  j1 = p6;
+  j1 = p5;
   i1 = (u32)(j1);
   i1 = i32_load8_u(j1);
   i2 = 1u;
   i1 &= i2;
   i32_store8(j0, i1);
-  j0 = p5;
+  j0 = p6;
   i0 = (u32)(j0);
-  j1 = p5;
+  j1 = p6;
   i1 = (u32)(j1);
   i1 = i32_load8_u(j1);
   i2 = 1u;
@@ -59490,13 +59854,13 @@ static void f62(module *self, u64 p0, u64 p1, u64 p2, u64 p3, u64 p4, u64 p5, u6
   j1 <<= (j2 & 63);
   l19 = j1;
   i1 = (u32)(j1);
-  i1 = i32_load(j1 + 1051784u);
+  i1 = i32_load(j1 + 1051804u);
   i32_store(j0, i1);
   j0 = l13;
   i0 = (u32)(j0);
   j1 = l19;
   i1 = (u32)(j1);
-  i1 = i32_load(j1 + 1051768u);
+  i1 = i32_load(j1 + 1051788u);
   i32_store(j0, i1);
   j0 = l14;
   i0 = (u32)(j0);
@@ -59556,17 +59920,17 @@ static void f62(module *self, u64 p0, u64 p1, u64 p2, u64 p3, u64 p4, u64 p5, u6
   i2 = 3u;
   i1 &= i2;
   i32_store8(j0, i1);
-  j0 = p6;
+  j0 = p5;
   i0 = (u32)(j0);
-  j1 = p6;
+  j1 = p5;
   i1 = (u32)(j1);
   i1 = i32_load8_u(j1);
   i2 = 1u;
   i1 &= i2;
   i32_store8(j0, i1);
-  j0 = p5;
+  j0 = p6;
   i0 = (u32)(j0);
-  j1 = p5;
+  j1 = p6;
   i1 = (u32)(j1);
   i1 = i32_load8_u(j1);
   i2 = 1u;
@@ -59606,13 +59970,13 @@ static void f62(module *self, u64 p0, u64 p1, u64 p2, u64 p3, u64 p4, u64 p5, u6
   j1 <<= (j2 & 63);
   l18 = j1;
   i1 = (u32)(j1);
-  i1 = i32_load(j1 + 1051784u);
+  i1 = i32_load(j1 + 1051804u);
   i32_store(j0, i1);
   j0 = l13;
   i0 = (u32)(j0);
   j1 = l18;
   i1 = (u32)(j1);
-  i1 = i32_load(j1 + 1051768u);
+  i1 = i32_load(j1 + 1051788u);
   i32_store(j0, i1);
   j0 = l14;
   i0 = (u32)(j0);
@@ -59668,17 +60032,17 @@ static void f62(module *self, u64 p0, u64 p1, u64 p2, u64 p3, u64 p4, u64 p5, u6
   i0 = (u32)(j0);
   i1 = 0u;
   i32_store16(j0, i1);
-  j0 = p6;
+  j0 = p5;
   i0 = (u32)(j0);
-  j1 = p6;
+  j1 = p5;
   i1 = (u32)(j1);
   i1 = i32_load8_u(j1);
   i2 = 1u;
   i1 &= i2;
   i32_store8(j0, i1);
-  j0 = p5;
+  j0 = p6;
   i0 = (u32)(j0);
-  j1 = p5;
+  j1 = p6;
   i1 = (u32)(j1);
   i1 = i32_load8_u(j1);
   i2 = 1u;
@@ -59718,13 +60082,13 @@ static void f62(module *self, u64 p0, u64 p1, u64 p2, u64 p3, u64 p4, u64 p5, u6
   j1 <<= (j2 & 63);
   p1 = j1;
   i1 = (u32)(j1);
-  i1 = i32_load(j1 + 1051784u);
+  i1 = i32_load(j1 + 1051804u);
   i32_store(j0, i1);
   j0 = l13;
   i0 = (u32)(j0);
   j1 = p1;
   i1 = (u32)(j1);
-  i1 = i32_load(j1 + 1051768u);
+  i1 = i32_load(j1 + 1051788u);
   i32_store(j0, i1);
   j0 = l14;
   i0 = (u32)(j0);
@@ -59809,7 +60173,7 @@ static void f62(module *self, u64 p0, u64 p1, u64 p2, u64 p3, u64 p4, u64 p5, u6
   i1 &= i2;
   i0 |= i1;
   l39 = i0;
-  B98:;
+  B100:;
   j0 = l7;
   i0 = (u32)(j0);
   i1 = l51;
@@ -59819,39 +60183,39 @@ static void f62(module *self, u64 p0, u64 p1, u64 p2, u64 p3, u64 p4, u64 p5, u6
   i3 = 255u;
   i2 &= i3;
   i1 |= i2;
-  i32_store16(j0 + 432, i1);
-  goto B56;
-  B62:;
+  i32_store16(j0 + 408, i1);
+  goto B58;
+  B64:;
   i0 = l49;
   i1 = 7u;
   i0 = i0 == i1;
-  if (i0) {goto B56;}
+  if (i0) {goto B58;}
   j0 = l7;
   i0 = (u32)(j0);
   i1 = 0u;
-  i32_store(j0 + 337, i1);
+  i32_store(j0 + 457, i1);
   j0 = l7;
   i0 = (u32)(j0);
   j1 = p3;
-  i64_store(j0 + 320, j1);
+  i64_store(j0 + 440, j1);
   j0 = l7;
   i0 = (u32)(j0);
   i1 = 0u;
-  i32_store(j0 + 340, i1);
+  i32_store(j0 + 460, i1);
   j0 = l7;
   i0 = (u32)(j0);
   j1 = p2;
-  i64_store(j0 + 328, j1);
+  i64_store(j0 + 448, j1);
   j0 = l7;
   i0 = (u32)(j0);
   j1 = p2;
   j2 = 26ull;
   j1 += j2;
-  p5 = j1;
+  p6 = j1;
   i1 = (u32)(j1);
   i1 = i32_load8_u(j1);
   l39 = i1;
-  i32_store8(j0 + 336, i1);
+  i32_store8(j0 + 456, i1);
   j0 = p2;
   i1 = l39;
   j1 = (u64)(i1);
@@ -59860,14 +60224,14 @@ static void f62(module *self, u64 p0, u64 p1, u64 p2, u64 p3, u64 p4, u64 p5, u6
   j0 += j1;
   j1 = 8ull;
   j0 += j1;
-  p6 = j0;
-  j0 = p6;
+  p5 = j0;
+  j0 = p5;
   i0 = (u32)(j0);
   j1 = p1;
   j2 = l7;
-  j3 = 320ull;
+  j3 = 440ull;
   j2 += j3;
-  j3 = p6;
+  j3 = p5;
   i3 = (u32)(j3);
   i3 = i32_load16_u(j3);
   i4 = l49;
@@ -59883,13 +60247,13 @@ static void f62(module *self, u64 p0, u64 p1, u64 p2, u64 p3, u64 p4, u64 p5, u6
   i0 += i1;
   i1 = 251u;
   i0 &= i1;
-  if (i0) {goto B56;}
+  if (i0) {goto B58;}
   i0 = l39;
-  j1 = p5;
+  j1 = p6;
   i1 = (u32)(j1);
   i1 = i32_load8_u(j1);
   i0 = i0 != i1;
-  if (i0) {goto B56;}
+  if (i0) {goto B58;}
   j0 = p1;
   j1 = p2;
   j2 = 28ull;
@@ -59932,8 +60296,8 @@ static void f62(module *self, u64 p0, u64 p1, u64 p2, u64 p3, u64 p4, u64 p5, u6
   i2 = 15u;
   i3 = l39;
   f64(self, j0, i1, i2, i3);
-  goto B56;
-  B61:;
+  goto B58;
+  B63:;
   j0 = l7;
   i0 = (u32)(j0);
   j1 = p2;
@@ -59945,7 +60309,7 @@ static void f62(module *self, u64 p0, u64 p1, u64 p2, u64 p3, u64 p4, u64 p5, u6
   i1 <<= (i2 & 31);
   i2 = l20;
   i1 |= i2;
-  i32_store16(j0 + 432, i1);
+  i32_store16(j0 + 408, i1);
   j0 = l7;
   i0 = (u32)(j0);
   j1 = p2;
@@ -59959,9 +60323,9 @@ static void f62(module *self, u64 p0, u64 p1, u64 p2, u64 p3, u64 p4, u64 p5, u6
   i3 = 255u;
   i2 &= i3;
   i1 |= i2;
-  i32_store16(j0 + 434, i1);
-  goto B56;
-  B60:;
+  i32_store16(j0 + 410, i1);
+  goto B58;
+  B62:;
   i0 = l75;
   i1 = 8u;
   i0 >>= (i1 & 31);
@@ -59978,34 +60342,34 @@ static void f62(module *self, u64 p0, u64 p1, u64 p2, u64 p3, u64 p4, u64 p5, u6
   j0 &= j1;
   i0 = (u32)(j0);
   switch (i0) {
-    case 0: goto B110;
-    case 1: goto B109;
-    case 2: goto B108;
-    case 3: goto B107;
-    case 4: goto B106;
-    case 5: goto B105;
-    case 6: goto B104;
-    case 7: goto B103;
-    case 8: goto B102;
-    case 9: goto B101;
-    case 10: goto B100;
-    default: goto B110;
+    case 0: goto B112;
+    case 1: goto B111;
+    case 2: goto B110;
+    case 3: goto B109;
+    case 4: goto B108;
+    case 5: goto B107;
+    case 6: goto B106;
+    case 7: goto B105;
+    case 8: goto B104;
+    case 9: goto B103;
+    case 10: goto B102;
+    default: goto B112;
   }
-  B110:;
+  B112:;
   j0 = p1;
   i1 = l20;
   i2 = l49;
   i3 = l39;
   f68(self, j0, i1, i2, i3); if (NEVER(self->is_broken)) return;
-  goto B56;
-  B109:;
+  goto B58;
+  B111:;
   j0 = p1;
   i1 = l20;
   i2 = 17u;
   i3 = l49;
   f68(self, j0, i1, i2, i3); if (NEVER(self->is_broken)) return;
-  goto B56;
-  B108:;
+  goto B58;
+  B110:;
   j0 = l7;
   j1 = 216ull;
   j0 += j1;
@@ -60035,7 +60399,7 @@ static void f62(module *self, u64 p0, u64 p1, u64 p2, u64 p3, u64 p4, u64 p5, u6
   l48 = i0;
   i1 = 1u;
   i0 = i0 != i1;
-  if (i0) {goto B113;}
+  if (i0) {goto B115;}
   j0 = p1;
   j1 = 204ull;
   j0 += j1;
@@ -60047,16 +60411,16 @@ static void f62(module *self, u64 p0, u64 p1, u64 p2, u64 p3, u64 p4, u64 p5, u6
   l49 = i0;
   i1 = 20u;
   i0 = i0 > i1;
-  if (i0) {goto B111;}
+  if (i0) {goto B113;}
   i0 = l49;
   i1 = 15u;
   i0 = i0 > i1;
-  if (i0) {goto B115;}
+  if (i0) {goto B117;}
   i0 = l75;
   i1 = 32u;
   i0 &= i1;
-  if (i0) {goto B114;}
-  B115:;
+  if (i0) {goto B116;}
+  B117:;
   j0 = p1;
   i1 = l49;
   j1 = (u64)(i1);
@@ -60074,7 +60438,7 @@ static void f62(module *self, u64 p0, u64 p1, u64 p2, u64 p3, u64 p4, u64 p5, u6
   i1 &= i2;
   i32_store8(j0, i1);
   j0 = l7;
-  j1 = 320ull;
+  j1 = 440ull;
   j0 += j1;
   j1 = p6;
   f28(self, j0, j1);
@@ -60084,7 +60448,7 @@ static void f62(module *self, u64 p0, u64 p1, u64 p2, u64 p3, u64 p4, u64 p5, u6
   i0 = (u32)(j0);
   j1 = l7;
   i1 = (u32)(j1);
-  j1 = i64_load(j1 + 328u);
+  j1 = i64_load(j1 + 448u);
   i64_store(j0, j1);
   j0 = p1;
   j1 = 188ull;
@@ -60092,9 +60456,9 @@ static void f62(module *self, u64 p0, u64 p1, u64 p2, u64 p3, u64 p4, u64 p5, u6
   i0 = (u32)(j0);
   j1 = l7;
   i1 = (u32)(j1);
-  j1 = i64_load(j1 + 320u);
+  j1 = i64_load(j1 + 440u);
   i64_store(j0, j1);
-  B114:;
+  B116:;
   j0 = p1;
   j1 = 204ull;
   j0 += j1;
@@ -60109,16 +60473,16 @@ static void f62(module *self, u64 p0, u64 p1, u64 p2, u64 p3, u64 p4, u64 p5, u6
   l49 = i0;
   i1 = 20u;
   i0 = i0 > i1;
-  if (i0) {goto B111;}
+  if (i0) {goto B113;}
   i0 = l49;
   i1 = 15u;
   i0 = i0 > i1;
-  if (i0) {goto B116;}
+  if (i0) {goto B118;}
   i0 = l39;
   i1 = 32u;
   i0 &= i1;
-  if (i0) {goto B112;}
-  B116:;
+  if (i0) {goto B114;}
+  B118:;
   j0 = p1;
   i1 = l49;
   j1 = (u64)(i1);
@@ -60136,7 +60500,7 @@ static void f62(module *self, u64 p0, u64 p1, u64 p2, u64 p3, u64 p4, u64 p5, u6
   i1 &= i2;
   i32_store8(j0, i1);
   j0 = l7;
-  j1 = 320ull;
+  j1 = 440ull;
   j0 += j1;
   j1 = p6;
   f28(self, j0, j1);
@@ -60146,7 +60510,7 @@ static void f62(module *self, u64 p0, u64 p1, u64 p2, u64 p3, u64 p4, u64 p5, u6
   i0 = (u32)(j0);
   j1 = l7;
   i1 = (u32)(j1);
-  j1 = i64_load(j1 + 328u);
+  j1 = i64_load(j1 + 448u);
   i64_store(j0, j1);
   j0 = p1;
   j1 = 188ull;
@@ -60154,10 +60518,10 @@ static void f62(module *self, u64 p0, u64 p1, u64 p2, u64 p3, u64 p4, u64 p5, u6
   i0 = (u32)(j0);
   j1 = l7;
   i1 = (u32)(j1);
-  j1 = i64_load(j1 + 320u);
+  j1 = i64_load(j1 + 440u);
   i64_store(j0, j1);
-  goto B112;
-  B113:;
+  goto B114;
+  B115:;
   j0 = p1;
   j1 = 204ull;
   j0 += j1;
@@ -60178,7 +60542,7 @@ static void f62(module *self, u64 p0, u64 p1, u64 p2, u64 p3, u64 p4, u64 p5, u6
   i1 &= i2;
   i32_store8(j0, i1);
   j0 = l7;
-  j1 = 320ull;
+  j1 = 440ull;
   j0 += j1;
   j1 = p6;
   f28(self, j0, j1);
@@ -60188,7 +60552,7 @@ static void f62(module *self, u64 p0, u64 p1, u64 p2, u64 p3, u64 p4, u64 p5, u6
   i0 = (u32)(j0);
   j1 = l7;
   i1 = (u32)(j1);
-  j1 = i64_load(j1 + 328u);
+  j1 = i64_load(j1 + 448u);
   i64_store(j0, j1);
   j0 = p1;
   j1 = 188ull;
@@ -60196,13 +60560,13 @@ static void f62(module *self, u64 p0, u64 p1, u64 p2, u64 p3, u64 p4, u64 p5, u6
   i0 = (u32)(j0);
   j1 = l7;
   i1 = (u32)(j1);
-  j1 = i64_load(j1 + 320u);
+  j1 = i64_load(j1 + 440u);
   i64_store(j0, j1);
   j0 = p5;
   i0 = (u32)(j0);
   i1 = 32u;
   i32_store8(j0, i1);
-  B112:;
+  B114:;
   j0 = p1;
   j1 = 205ull;
   j0 += j1;
@@ -60211,15 +60575,15 @@ static void f62(module *self, u64 p0, u64 p1, u64 p2, u64 p3, u64 p4, u64 p5, u6
   i2 = 1u;
   i1 ^= i2;
   i32_store8(j0, i1);
-  B111:;
+  B113:;
   j0 = l7;
   j1 = 208ull;
   j0 += j1;
   j1 = p1;
   i2 = l20;
   f31(self, j0, j1, i2); if (NEVER(self->is_broken)) return;
-  goto B56;
-  B107:;
+  goto B58;
+  B109:;
   j0 = l7;
   j1 = 232ull;
   j0 += j1;
@@ -60232,7 +60596,7 @@ static void f62(module *self, u64 p0, u64 p1, u64 p2, u64 p3, u64 p4, u64 p5, u6
   j0 = p1;
   j1 = 146ull;
   j0 += j1;
-  p6 = j0;
+  p5 = j0;
   j0 = p1;
   j1 = 205ull;
   j0 += j1;
@@ -60241,7 +60605,7 @@ static void f62(module *self, u64 p0, u64 p1, u64 p2, u64 p3, u64 p4, u64 p5, u6
   l20 = i0;
   i1 = 1u;
   i0 = i0 != i1;
-  if (i0) {goto B119;}
+  if (i0) {goto B121;}
   j0 = p1;
   j1 = 204ull;
   j0 += j1;
@@ -60253,27 +60617,27 @@ static void f62(module *self, u64 p0, u64 p1, u64 p2, u64 p3, u64 p4, u64 p5, u6
   l48 = i0;
   i1 = 20u;
   i0 = i0 > i1;
-  if (i0) {goto B117;}
+  if (i0) {goto B119;}
   i0 = l48;
   j0 = (u64)(i0);
-  p5 = j0;
+  p6 = j0;
   i0 = l48;
   i1 = 15u;
   i0 = i0 > i1;
-  if (i0) {goto B121;}
+  if (i0) {goto B123;}
   i0 = l75;
   i1 = 32u;
   i0 &= i1;
-  if (i0) {goto B120;}
-  B121:;
+  if (i0) {goto B122;}
+  B123:;
   j0 = p1;
-  j1 = p5;
+  j1 = p6;
   j0 += j1;
   j1 = 167ull;
   j0 += j1;
   i0 = (u32)(j0);
-  j1 = p6;
-  j2 = p5;
+  j1 = p5;
+  j2 = p6;
   j1 += j2;
   i1 = (u32)(j1);
   i1 = i32_load8_u(j1);
@@ -60281,9 +60645,9 @@ static void f62(module *self, u64 p0, u64 p1, u64 p2, u64 p3, u64 p4, u64 p5, u6
   i1 &= i2;
   i32_store8(j0, i1);
   j0 = l7;
-  j1 = 320ull;
+  j1 = 440ull;
   j0 += j1;
-  j1 = p6;
+  j1 = p5;
   f28(self, j0, j1);
   j0 = p1;
   j1 = 196ull;
@@ -60291,7 +60655,7 @@ static void f62(module *self, u64 p0, u64 p1, u64 p2, u64 p3, u64 p4, u64 p5, u6
   i0 = (u32)(j0);
   j1 = l7;
   i1 = (u32)(j1);
-  j1 = i64_load(j1 + 328u);
+  j1 = i64_load(j1 + 448u);
   i64_store(j0, j1);
   j0 = p1;
   j1 = 188ull;
@@ -60299,9 +60663,9 @@ static void f62(module *self, u64 p0, u64 p1, u64 p2, u64 p3, u64 p4, u64 p5, u6
   i0 = (u32)(j0);
   j1 = l7;
   i1 = (u32)(j1);
-  j1 = i64_load(j1 + 320u);
+  j1 = i64_load(j1 + 440u);
   i64_store(j0, j1);
-  B120:;
+  B122:;
   j0 = p1;
   j1 = 205ull;
   j0 += j1;
@@ -60316,7 +60680,7 @@ static void f62(module *self, u64 p0, u64 p1, u64 p2, u64 p3, u64 p4, u64 p5, u6
   j2 = 167ull;
   j1 += j2;
   l8 = j1;
-  j2 = p5;
+  j2 = p6;
   j1 += j2;
   i1 = (u32)(j1);
   i1 = i32_load8_u(j1);
@@ -60336,24 +60700,24 @@ static void f62(module *self, u64 p0, u64 p1, u64 p2, u64 p3, u64 p4, u64 p5, u6
   l49 = i0;
   i1 = 20u;
   i0 = i0 > i1;
-  if (i0) {goto B117;}
+  if (i0) {goto B119;}
   i0 = l48;
   i1 = 32u;
   i0 = i0 < i1;
-  if (i0) {goto B122;}
+  if (i0) {goto B124;}
   i0 = l49;
   i1 = 16u;
   i0 = i0 < i1;
-  if (i0) {goto B118;}
-  B122:;
+  if (i0) {goto B120;}
+  B124:;
   j0 = l8;
   i1 = l49;
   j1 = (u64)(i1);
-  p5 = j1;
+  p6 = j1;
   j0 += j1;
   i0 = (u32)(j0);
-  j1 = p6;
-  j2 = p5;
+  j1 = p5;
+  j2 = p6;
   j1 += j2;
   i1 = (u32)(j1);
   i1 = i32_load8_u(j1);
@@ -60361,9 +60725,9 @@ static void f62(module *self, u64 p0, u64 p1, u64 p2, u64 p3, u64 p4, u64 p5, u6
   i1 &= i2;
   i32_store8(j0, i1);
   j0 = l7;
-  j1 = 320ull;
+  j1 = 440ull;
   j0 += j1;
-  j1 = p6;
+  j1 = p5;
   f28(self, j0, j1);
   j0 = p1;
   j1 = 196ull;
@@ -60371,7 +60735,7 @@ static void f62(module *self, u64 p0, u64 p1, u64 p2, u64 p3, u64 p4, u64 p5, u6
   i0 = (u32)(j0);
   j1 = l7;
   i1 = (u32)(j1);
-  j1 = i64_load(j1 + 328u);
+  j1 = i64_load(j1 + 448u);
   i64_store(j0, j1);
   j0 = p1;
   j1 = 188ull;
@@ -60379,14 +60743,14 @@ static void f62(module *self, u64 p0, u64 p1, u64 p2, u64 p3, u64 p4, u64 p5, u6
   i0 = (u32)(j0);
   j1 = l7;
   i1 = (u32)(j1);
-  j1 = i64_load(j1 + 320u);
+  j1 = i64_load(j1 + 440u);
   i64_store(j0, j1);
-  goto B118;
-  B119:;
+  goto B120;
+  B121:;
   j0 = p1;
   j1 = 204ull;
   j0 += j1;
-  p5 = j0;
+  p6 = j0;
   i0 = (u32)(j0);
   i1 = 304u;
   i32_store16(j0, i1);
@@ -60412,9 +60776,9 @@ static void f62(module *self, u64 p0, u64 p1, u64 p2, u64 p3, u64 p4, u64 p5, u6
   i1 &= i2;
   i32_store8(j0, i1);
   j0 = l7;
-  j1 = 320ull;
+  j1 = 440ull;
   j0 += j1;
-  j1 = p6;
+  j1 = p5;
   f28(self, j0, j1);
   j0 = p1;
   j1 = 196ull;
@@ -60422,7 +60786,7 @@ static void f62(module *self, u64 p0, u64 p1, u64 p2, u64 p3, u64 p4, u64 p5, u6
   i0 = (u32)(j0);
   j1 = l7;
   i1 = (u32)(j1);
-  j1 = i64_load(j1 + 328u);
+  j1 = i64_load(j1 + 448u);
   i64_store(j0, j1);
   j0 = p1;
   j1 = 188ull;
@@ -60430,13 +60794,13 @@ static void f62(module *self, u64 p0, u64 p1, u64 p2, u64 p3, u64 p4, u64 p5, u6
   i0 = (u32)(j0);
   j1 = l7;
   i1 = (u32)(j1);
-  j1 = i64_load(j1 + 320u);
+  j1 = i64_load(j1 + 440u);
   i64_store(j0, j1);
-  j0 = p5;
+  j0 = p6;
   i0 = (u32)(j0);
   i1 = 32u;
   i32_store8(j0, i1);
-  B118:;
+  B120:;
   j0 = p1;
   j1 = 205ull;
   j0 += j1;
@@ -60445,24 +60809,24 @@ static void f62(module *self, u64 p0, u64 p1, u64 p2, u64 p3, u64 p4, u64 p5, u6
   i2 = 1u;
   i1 ^= i2;
   i32_store8(j0, i1);
-  B117:;
+  B119:;
   j0 = l7;
   j1 = 224ull;
   j0 += j1;
   j1 = p1;
   i2 = l39;
   f31(self, j0, j1, i2); if (NEVER(self->is_broken)) return;
-  goto B56;
-  B106:;
+  goto B58;
+  B108:;
   j0 = p1;
   i1 = l20;
   i2 = l49;
   j3 = l7;
-  j4 = 432ull;
+  j4 = 408ull;
   j3 += j4;
   f70(self, j0, i1, i2, j3); if (NEVER(self->is_broken)) return;
-  goto B56;
-  B105:;
+  goto B58;
+  B107:;
   j0 = l7;
   j1 = 248ull;
   j0 += j1;
@@ -60481,7 +60845,7 @@ static void f62(module *self, u64 p0, u64 p1, u64 p2, u64 p3, u64 p4, u64 p5, u6
   i0 = i32_load8_u(j0);
   i1 = 1u;
   i0 = i0 != i1;
-  if (i0) {goto B125;}
+  if (i0) {goto B127;}
   j0 = p1;
   j1 = 204ull;
   j0 += j1;
@@ -60493,21 +60857,21 @@ static void f62(module *self, u64 p0, u64 p1, u64 p2, u64 p3, u64 p4, u64 p5, u6
   l20 = i0;
   i1 = 20u;
   i0 = i0 > i1;
-  if (i0) {goto B126;}
+  if (i0) {goto B128;}
   i0 = l20;
   j0 = (u64)(i0);
-  p6 = j0;
+  p5 = j0;
   i0 = l20;
   i1 = 15u;
   i0 = i0 > i1;
-  if (i0) {goto B128;}
+  if (i0) {goto B130;}
   i0 = l48;
   i1 = 32u;
   i0 &= i1;
-  if (i0) {goto B127;}
-  B128:;
+  if (i0) {goto B129;}
+  B130:;
   j0 = p1;
-  j1 = p6;
+  j1 = p5;
   j0 += j1;
   j1 = 167ull;
   j0 += j1;
@@ -60515,8 +60879,8 @@ static void f62(module *self, u64 p0, u64 p1, u64 p2, u64 p3, u64 p4, u64 p5, u6
   j1 = p1;
   j2 = 146ull;
   j1 += j2;
-  p5 = j1;
-  j2 = p6;
+  p6 = j1;
+  j2 = p5;
   j1 += j2;
   i1 = (u32)(j1);
   i1 = i32_load8_u(j1);
@@ -60524,9 +60888,9 @@ static void f62(module *self, u64 p0, u64 p1, u64 p2, u64 p3, u64 p4, u64 p5, u6
   i1 &= i2;
   i32_store8(j0, i1);
   j0 = l7;
-  j1 = 320ull;
+  j1 = 440ull;
   j0 += j1;
-  j1 = p5;
+  j1 = p6;
   f28(self, j0, j1);
   j0 = p1;
   j1 = 196ull;
@@ -60534,7 +60898,7 @@ static void f62(module *self, u64 p0, u64 p1, u64 p2, u64 p3, u64 p4, u64 p5, u6
   i0 = (u32)(j0);
   j1 = l7;
   i1 = (u32)(j1);
-  j1 = i64_load(j1 + 328u);
+  j1 = i64_load(j1 + 448u);
   i64_store(j0, j1);
   j0 = p1;
   j1 = 188ull;
@@ -60542,17 +60906,17 @@ static void f62(module *self, u64 p0, u64 p1, u64 p2, u64 p3, u64 p4, u64 p5, u6
   i0 = (u32)(j0);
   j1 = l7;
   i1 = (u32)(j1);
-  j1 = i64_load(j1 + 320u);
+  j1 = i64_load(j1 + 440u);
   i64_store(j0, j1);
-  B127:;
+  B129:;
   i0 = 0u;
   l20 = i0;
-  goto B124;
-  B126:;
+  goto B126;
+  B128:;
   i0 = 255u;
   l20 = i0;
-  goto B123;
-  B125:;
+  goto B125;
+  B127:;
   j0 = p1;
   j1 = 204ull;
   j0 += j1;
@@ -60560,8 +60924,8 @@ static void f62(module *self, u64 p0, u64 p1, u64 p2, u64 p3, u64 p4, u64 p5, u6
   i1 = 49u;
   i32_store8(j0, i1);
   j0 = 17ull;
-  p6 = j0;
-  B124:;
+  p5 = j0;
+  B126:;
   j0 = p1;
   j1 = 205ull;
   j0 += j1;
@@ -60569,14 +60933,14 @@ static void f62(module *self, u64 p0, u64 p1, u64 p2, u64 p3, u64 p4, u64 p5, u6
   i1 = l20;
   i32_store8(j0, i1);
   j0 = p1;
-  j1 = p6;
+  j1 = p5;
   j0 += j1;
   j1 = 167ull;
   j0 += j1;
   i0 = (u32)(j0);
   i0 = i32_load8_u(j0);
   l20 = i0;
-  B123:;
+  B125:;
   j0 = l7;
   j1 = 240ull;
   j0 += j1;
@@ -60592,9 +60956,9 @@ static void f62(module *self, u64 p0, u64 p1, u64 p2, u64 p3, u64 p4, u64 p5, u6
   i3 = 255u;
   i2 &= i3;
   i1 |= i2;
-  i32_store16(j0 + 434, i1);
-  goto B56;
-  B104:;
+  i32_store16(j0 + 410, i1);
+  goto B58;
+  B106:;
   j0 = p1;
   j1 = 2001ull;
   j0 += j1;
@@ -60632,21 +60996,21 @@ static void f62(module *self, u64 p0, u64 p1, u64 p2, u64 p3, u64 p4, u64 p5, u6
   j1 = (u64)(i1);
   j2 = 255ull;
   j1 &= j2;
-  p5 = j1;
+  p6 = j1;
   j0 += j1;
-  p6 = j0;
+  p5 = j0;
   j1 = 206ull;
   j0 += j1;
   i0 = (u32)(j0);
   i1 = l48;
   i32_store8(j0, i1);
-  j0 = p6;
+  j0 = p5;
   j1 = 462ull;
   j0 += j1;
   i0 = (u32)(j0);
   i1 = l20;
   i32_store8(j0, i1);
-  j0 = p6;
+  j0 = p5;
   j1 = 718ull;
   j0 += j1;
   i0 = (u32)(j0);
@@ -60658,7 +61022,7 @@ static void f62(module *self, u64 p0, u64 p1, u64 p2, u64 p3, u64 p4, u64 p5, u6
   l39 = i1;
   i32_store8(j0, i1);
   j0 = p1;
-  j1 = p5;
+  j1 = p6;
   j2 = 2ull;
   j1 <<= (j2 & 63);
   j0 += j1;
@@ -60686,8 +61050,8 @@ static void f62(module *self, u64 p0, u64 p1, u64 p2, u64 p3, u64 p4, u64 p5, u6
   i0 = (u32)(j0);
   i1 = l48;
   i32_store8(j0, i1);
-  goto B56;
-  B103:;
+  goto B58;
+  B105:;
   i0 = 0u;
   l20 = i0;
   j0 = p1;
@@ -60704,7 +61068,7 @@ static void f62(module *self, u64 p0, u64 p1, u64 p2, u64 p3, u64 p4, u64 p5, u6
   i32_store8(j0, i1);
   j0 = p6;
   i0 = !(j0);
-  if (i0) {goto B56;}
+  if (i0) {goto B58;}
   j0 = p1;
   j1 = 974ull;
   j0 += j1;
@@ -60721,7 +61085,7 @@ static void f62(module *self, u64 p0, u64 p1, u64 p2, u64 p3, u64 p4, u64 p5, u6
   j1 = 206ull;
   j0 += j1;
   l9 = j0;
-  L129: 
+  L131: 
     j0 = p5;
     i0 = (u32)(j0);
     i0 = i32_load8_u(j0);
@@ -60734,12 +61098,12 @@ static void f62(module *self, u64 p0, u64 p1, u64 p2, u64 p3, u64 p4, u64 p5, u6
     j0 &= j1;
     i0 = (u32)(j0);
     switch (i0) {
-      case 0: goto B133;
-      case 1: goto B131;
-      case 2: goto B132;
-      default: goto B133;
+      case 0: goto B135;
+      case 1: goto B133;
+      case 2: goto B134;
+      default: goto B135;
     }
-    B133:;
+    B135:;
     j0 = p1;
     j1 = 2000ull;
     j0 += j1;
@@ -60748,8 +61112,8 @@ static void f62(module *self, u64 p0, u64 p1, u64 p2, u64 p3, u64 p4, u64 p5, u6
     i32_store8(j0, i1);
     i0 = 1u;
     l20 = i0;
-    goto B130;
-    B132:;
+    goto B132;
+    B134:;
     j0 = p1;
     j1 = 1998ull;
     j0 += j1;
@@ -60816,8 +61180,8 @@ static void f62(module *self, u64 p0, u64 p1, u64 p2, u64 p3, u64 p4, u64 p5, u6
     i32_store8(j0, i1);
     i0 = l49;
     l39 = i0;
-    goto B130;
-    B131:;
+    goto B132;
+    B133:;
     j0 = p1;
     j1 = 2001ull;
     j0 += j1;
@@ -60826,7 +61190,7 @@ static void f62(module *self, u64 p0, u64 p1, u64 p2, u64 p3, u64 p4, u64 p5, u6
     i32_store8(j0, i1);
     i0 = 2u;
     l20 = i0;
-    B130:;
+    B132:;
     j0 = p1;
     j1 = 1999ull;
     j0 += j1;
@@ -60843,10 +61207,10 @@ static void f62(module *self, u64 p0, u64 p1, u64 p2, u64 p3, u64 p4, u64 p5, u6
     p6 = j0;
     i0 = !(j0);
     i0 = !(i0);
-    if (i0) {goto L129;}
-    goto B56;
+    if (i0) {goto L131;}
+    goto B58;
   { self->is_broken = true; return; }
-  B102:;
+  B104:;
   j0 = p1;
   j1 = 1999ull;
   j0 += j1;
@@ -60883,7 +61247,7 @@ static void f62(module *self, u64 p0, u64 p1, u64 p2, u64 p3, u64 p4, u64 p5, u6
   i3 = 255u;
   i2 &= i3;
   i1 |= i2;
-  i32_store16(j0 + 438, i1);
+  i32_store16(j0 + 414, i1);
   j0 = l7;
   i0 = (u32)(j0);
   j1 = p1;
@@ -60899,17 +61263,17 @@ static void f62(module *self, u64 p0, u64 p1, u64 p2, u64 p3, u64 p4, u64 p5, u6
   i2 = (u32)(j2);
   i2 = i32_load8_u(j2);
   i1 |= i2;
-  i32_store16(j0 + 436, i1);
-  goto B56;
-  B101:;
+  i32_store16(j0 + 412, i1);
+  goto B58;
+  B103:;
   j0 = p1;
   j1 = 2002ull;
   j0 += j1;
   i0 = (u32)(j0);
   i1 = l49;
   i32_store8(j0, i1);
-  goto B56;
-  B100:;
+  goto B58;
+  B102:;
   j0 = l7;
   i0 = (u32)(j0);
   i1 = l52;
@@ -60921,13 +61285,13 @@ static void f62(module *self, u64 p0, u64 p1, u64 p2, u64 p3, u64 p4, u64 p5, u6
   i2 = (u32)(j2);
   i2 = i32_load8_u(j2);
   i1 |= i2;
-  i32_store16(j0 + 434, i1);
-  goto B56;
-  B59:;
+  i32_store16(j0 + 410, i1);
+  goto B58;
+  B61:;
   j0 = l7;
   i0 = (u32)(j0);
   i1 = 9u;
-  i32_store16(j0 + 436, i1);
+  i32_store16(j0 + 412, i1);
   j0 = l7;
   i0 = (u32)(j0);
   i1 = 259u;
@@ -60936,45 +61300,45 @@ static void f62(module *self, u64 p0, u64 p1, u64 p2, u64 p3, u64 p4, u64 p5, u6
   i4 = 7u;
   i3 = i3 == i4;
   i1 = i3 ? i1 : i2;
-  i32_store16(j0 + 434, i1);
-  goto B56;
-  B58:;
+  i32_store16(j0 + 410, i1);
+  goto B58;
+  B60:;
   j0 = l7;
   i0 = (u32)(j0);
   i1 = l56;
-  i32_store8(j0 + 446, i1);
+  i32_store8(j0 + 422, i1);
   j0 = l7;
   i0 = (u32)(j0);
   i1 = l50;
-  i32_store16(j0 + 444, i1);
+  i32_store16(j0 + 420, i1);
   j0 = l7;
   i0 = (u32)(j0);
-  j0 = i64_load16_u(j0 + 445u);
+  j0 = i64_load16_u(j0 + 421u);
   p6 = j0;
   j0 = l7;
   i0 = (u32)(j0);
   j1 = 0ull;
-  i64_store(j0 + 336, j1);
+  i64_store(j0 + 456, j1);
   j0 = l7;
   i0 = (u32)(j0);
   j1 = p2;
-  i64_store(j0 + 328, j1);
+  i64_store(j0 + 448, j1);
   j0 = l7;
   i0 = (u32)(j0);
   j1 = p3;
-  i64_store(j0 + 320, j1);
+  i64_store(j0 + 440, j1);
   j0 = l7;
   i0 = (u32)(j0);
   i1 = l75;
-  i32_store8(j0 + 336, i1);
+  i32_store8(j0 + 456, i1);
   j0 = p6;
   i0 = !(j0);
-  if (i0) {goto B134;}
+  if (i0) {goto B136;}
   i0 = l58;
   i1 = 1u;
   i0 &= i1;
   i0 = !(i0);
-  if (i0) {goto B135;}
+  if (i0) {goto B137;}
   i0 = l58;
   j0 = (u64)(i0);
   j1 = 1ull;
@@ -60986,10 +61350,10 @@ static void f62(module *self, u64 p0, u64 p1, u64 p2, u64 p3, u64 p4, u64 p5, u6
   l8 = j0;
   j0 = 0ull;
   p4 = j0;
-  L136: 
+  L138: 
     j0 = p1;
     j1 = l7;
-    j2 = 320ull;
+    j2 = 440ull;
     j1 += j2;
     i2 = l39;
     j3 = p5;
@@ -61017,14 +61381,14 @@ static void f62(module *self, u64 p0, u64 p1, u64 p2, u64 p3, u64 p4, u64 p5, u6
     j0 = p6;
     j1 = p3;
     i0 = j0 != j1;
-    if (i0) {goto L136;}
-    goto B134;
+    if (i0) {goto L138;}
+    goto B136;
   { self->is_broken = true; return; }
-  B135:;
-  L137: 
+  B137:;
+  L139: 
     j0 = p1;
     j1 = l7;
-    j2 = 320ull;
+    j2 = 440ull;
     j1 += j2;
     i2 = l39;
     j3 = p5;
@@ -61044,13 +61408,13 @@ static void f62(module *self, u64 p0, u64 p1, u64 p2, u64 p3, u64 p4, u64 p5, u6
     p6 = j0;
     j1 = 0ull;
     i0 = j0 != j1;
-    if (i0) {goto L137;}
-  B134:;
+    if (i0) {goto L139;}
+  B136:;
   i0 = l57;
   i1 = 1u;
   i0 &= i1;
   i0 = !(i0);
-  if (i0) {goto B56;}
+  if (i0) {goto B58;}
   j0 = p2;
   i1 = l75;
   i2 = 1u;
@@ -61071,7 +61435,7 @@ static void f62(module *self, u64 p0, u64 p1, u64 p2, u64 p3, u64 p4, u64 p5, u6
   i0 += i1;
   i1 = 251u;
   i0 &= i1;
-  if (i0) {goto B56;}
+  if (i0) {goto B58;}
   j0 = p2;
   j1 = 26ull;
   j0 += j1;
@@ -61082,7 +61446,7 @@ static void f62(module *self, u64 p0, u64 p1, u64 p2, u64 p3, u64 p4, u64 p5, u6
   i1 &= i2;
   l20 = i1;
   i0 = i0 != i1;
-  if (i0) {goto B56;}
+  if (i0) {goto B58;}
   j0 = p1;
   j1 = p2;
   j2 = 28ull;
@@ -61125,83 +61489,61 @@ static void f62(module *self, u64 p0, u64 p1, u64 p2, u64 p3, u64 p4, u64 p5, u6
   i2 = 15u;
   i3 = l39;
   f64(self, j0, i1, i2, i3);
-  goto B56;
-  B57:;
+  goto B58;
+  B59:;
   j0 = l7;
   i0 = (u32)(j0);
   i1 = 530970u;
-  i32_store(j0 + 432, i1);
-  B56:;
+  i32_store(j0 + 408, i1);
+  B58:;
   i0 = 0u;
   l39 = i0;
   j0 = l7;
   i0 = (u32)(j0);
   i1 = 0u;
-  i32_store(j0 + 264, i1);
+  i32_store(j0 + 256, i1);
   j0 = l7;
   i0 = (u32)(j0);
   i1 = 0u;
-  i32_store(j0 + 267, i1);
+  i32_store(j0 + 259, i1);
   j0 = l7;
   i0 = (u32)(j0);
-  j0 = i64_load(j0 + 432u);
+  j0 = i64_load(j0 + 408u);
   p4 = j0;
-  i0 = 0u;
-  l20 = i0;
-  goto B1;
-  B55:;
-  j0 = l7;
-  i0 = (u32)(j0);
-  i0 = i32_load8_u(j0 + 257u);
-  l20 = i0;
-  j0 = l7;
-  i0 = (u32)(j0);
-  i1 = 0u;
-  i32_store(j0 + 267, i1);
-  j0 = l7;
-  i0 = (u32)(j0);
-  i1 = 0u;
-  i32_store(j0 + 264, i1);
+  goto B4;
+  B10:;
+  j0 = 0ull;
+  p5 = j0;
+  j0 = 0ull;
+  p4 = j0;
   B9:;
-  j0 = 0ull;
-  p4 = j0;
-  B8:;
-  i0 = 1u;
-  l39 = i0;
-  goto B1;
-  B7:;
-  j0 = 0ull;
-  p6 = j0;
-  j0 = 0ull;
-  p4 = j0;
-  B6:;
   j0 = l7;
   i0 = (u32)(j0);
   j1 = l7;
   i1 = (u32)(j1);
-  i1 = i32_load(j1 + 423u);
-  i32_store(j0 + 291, i1);
+  i1 = i32_load(j1 + 427u);
+  i32_store(j0 + 283, i1);
   j0 = l7;
   i0 = (u32)(j0);
   j1 = l7;
   i1 = (u32)(j1);
-  i1 = i32_load(j1 + 420u);
-  i32_store(j0 + 288, i1);
+  i1 = i32_load(j1 + 424u);
+  i32_store(j0 + 280, i1);
   i0 = 0u;
   l49 = i0;
   i0 = l20;
   l39 = i0;
-  goto B4;
-  B5:;
+  goto B7;
+  B8:;
   i0 = 1u;
   l20 = i0;
   i0 = 0u;
   l48 = i0;
   j0 = 0ull;
-  p5 = j0;
-  j0 = 0ull;
   p6 = j0;
-  B4:;
+  j0 = 0ull;
+  p5 = j0;
+  B7:;
   j0 = p0;
   i0 = (u32)(j0);
   i1 = l20;
@@ -61236,7 +61578,7 @@ static void f62(module *self, u64 p0, u64 p1, u64 p2, u64 p3, u64 p4, u64 p5, u6
   i0 = (u32)(j0);
   j1 = l7;
   i1 = (u32)(j1);
-  i1 = i32_load(j1 + 288u);
+  i1 = i32_load(j1 + 280u);
   i32_store(j0, i1);
   j0 = p0;
   j1 = 20ull;
@@ -61244,22 +61586,22 @@ static void f62(module *self, u64 p0, u64 p1, u64 p2, u64 p3, u64 p4, u64 p5, u6
   i0 = (u32)(j0);
   j1 = l7;
   i1 = (u32)(j1);
-  i1 = i32_load(j1 + 291u);
+  i1 = i32_load(j1 + 283u);
   i32_store(j0, i1);
   j0 = p0;
   j1 = 32ull;
   j0 += j1;
   i0 = (u32)(j0);
-  j1 = p6;
+  j1 = p5;
   i64_store(j0, j1);
   j0 = p0;
   j1 = 24ull;
   j0 += j1;
   i0 = (u32)(j0);
-  j1 = p5;
+  j1 = p6;
   i64_store(j0, j1);
   goto B0;
-  B3:;
+  B6:;
   i0 = 0u;
   l23 = i0;
   i0 = 0u;
@@ -61268,271 +61610,271 @@ static void f62(module *self, u64 p0, u64 p1, u64 p2, u64 p3, u64 p4, u64 p5, u6
   l74 = i0;
   i0 = 0u;
   l75 = i0;
-  B2:;
+  B5:;
   j0 = l7;
   i0 = (u32)(j0);
   i1 = 0u;
-  i32_store(j0 + 326, i1);
+  i32_store(j0 + 302, i1);
   j0 = l7;
   i0 = (u32)(j0);
   i1 = 0u;
-  i32_store8(j0 + 324, i1);
+  i32_store8(j0 + 300, i1);
   j0 = l7;
   i0 = (u32)(j0);
   i1 = 3u;
-  i32_store8(j0 + 321, i1);
+  i32_store8(j0 + 297, i1);
   j0 = l7;
   i0 = (u32)(j0);
   i1 = l48;
+  i32_store8(j0 + 296, i1);
+  j0 = l7;
+  i0 = (u32)(j0);
+  i1 = 0u;
+  i32_store8(j0 + 306, i1);
+  j0 = l7;
+  i0 = (u32)(j0);
+  i1 = 0u;
+  i32_store16(j0 + 378, i1);
+  j0 = l7;
+  i0 = (u32)(j0);
+  i1 = l75;
+  i32_store8(j0 + 377, i1);
+  j0 = l7;
+  i0 = (u32)(j0);
+  i1 = l74;
+  i32_store8(j0 + 376, i1);
+  j0 = l7;
+  i0 = (u32)(j0);
+  i1 = l22;
+  i32_store(j0 + 372, i1);
+  j0 = l7;
+  i0 = (u32)(j0);
+  i1 = 0u;
+  i32_store16(j0 + 370, i1);
+  j0 = l7;
+  i0 = (u32)(j0);
+  i1 = l23;
+  i32_store16(j0 + 368, i1);
+  j0 = l7;
+  i0 = (u32)(j0);
+  i1 = l24;
+  i32_store16(j0 + 366, i1);
+  j0 = l7;
+  i0 = (u32)(j0);
+  i1 = 0u;
+  i32_store8(j0 + 365, i1);
+  j0 = l7;
+  i0 = (u32)(j0);
+  i1 = l72;
+  i32_store8(j0 + 364, i1);
+  j0 = l7;
+  i0 = (u32)(j0);
+  i1 = l71;
+  i32_store8(j0 + 363, i1);
+  j0 = l7;
+  i0 = (u32)(j0);
+  i1 = l70;
+  i32_store8(j0 + 362, i1);
+  j0 = l7;
+  i0 = (u32)(j0);
+  i1 = l25;
+  i32_store16(j0 + 360, i1);
+  j0 = l7;
+  i0 = (u32)(j0);
+  i1 = l69;
+  i32_store16(j0 + 358, i1);
+  j0 = l7;
+  i0 = (u32)(j0);
+  i1 = 0u;
+  i32_store16(j0 + 356, i1);
+  j0 = l7;
+  i0 = (u32)(j0);
+  i1 = l68;
+  i32_store8(j0 + 355, i1);
+  j0 = l7;
+  i0 = (u32)(j0);
+  i1 = 3840u;
+  i32_store16(j0 + 353, i1);
+  j0 = l7;
+  i0 = (u32)(j0);
+  i1 = l67;
+  i32_store8(j0 + 352, i1);
+  j0 = l7;
+  i0 = (u32)(j0);
+  i1 = l26;
+  i32_store8(j0 + 351, i1);
+  j0 = l7;
+  i0 = (u32)(j0);
+  i1 = l27;
+  i32_store8(j0 + 350, i1);
+  j0 = l7;
+  i0 = (u32)(j0);
+  i1 = l28;
+  i32_store8(j0 + 349, i1);
+  j0 = l7;
+  i0 = (u32)(j0);
+  i1 = l29;
+  i32_store8(j0 + 348, i1);
+  j0 = l7;
+  i0 = (u32)(j0);
+  i1 = l30;
+  i32_store8(j0 + 347, i1);
+  j0 = l7;
+  i0 = (u32)(j0);
+  i1 = l31;
+  i32_store8(j0 + 346, i1);
+  j0 = l7;
+  i0 = (u32)(j0);
+  i1 = l32;
+  i32_store8(j0 + 345, i1);
+  j0 = l7;
+  i0 = (u32)(j0);
+  i1 = l33;
+  i32_store8(j0 + 344, i1);
+  j0 = l7;
+  i0 = (u32)(j0);
+  i1 = l66;
+  i32_store8(j0 + 343, i1);
+  j0 = l7;
+  i0 = (u32)(j0);
+  i1 = l65;
+  i32_store8(j0 + 342, i1);
+  j0 = l7;
+  i0 = (u32)(j0);
+  i1 = l64;
+  i32_store8(j0 + 341, i1);
+  j0 = l7;
+  i0 = (u32)(j0);
+  i1 = l63;
+  i32_store8(j0 + 340, i1);
+  j0 = l7;
+  i0 = (u32)(j0);
+  i1 = l62;
+  i32_store8(j0 + 339, i1);
+  j0 = l7;
+  i0 = (u32)(j0);
+  i1 = l61;
+  i32_store8(j0 + 338, i1);
+  j0 = l7;
+  i0 = (u32)(j0);
+  i1 = l60;
+  i32_store8(j0 + 337, i1);
+  j0 = l7;
+  i0 = (u32)(j0);
+  i1 = 255u;
+  i32_store16(j0 + 335, i1);
+  j0 = l7;
+  i0 = (u32)(j0);
+  i1 = l34;
+  i32_store8(j0 + 334, i1);
+  j0 = l7;
+  i0 = (u32)(j0);
+  i1 = l35;
+  i32_store8(j0 + 333, i1);
+  j0 = l7;
+  i0 = (u32)(j0);
+  i1 = l36;
+  i32_store8(j0 + 332, i1);
+  j0 = l7;
+  i0 = (u32)(j0);
+  i1 = l59;
+  i32_store8(j0 + 331, i1);
+  j0 = l7;
+  i0 = (u32)(j0);
+  i1 = l37;
+  i32_store8(j0 + 330, i1);
+  j0 = l7;
+  i0 = (u32)(j0);
+  i1 = l38;
+  i32_store8(j0 + 329, i1);
+  j0 = l7;
+  i0 = (u32)(j0);
+  i1 = l39;
+  i32_store8(j0 + 328, i1);
+  j0 = l7;
+  i0 = (u32)(j0);
+  i1 = l40;
+  i32_store8(j0 + 327, i1);
+  j0 = l7;
+  i0 = (u32)(j0);
+  i1 = 0u;
+  i32_store(j0 + 323, i1);
+  j0 = l7;
+  i0 = (u32)(j0);
+  i1 = l58;
+  i32_store8(j0 + 322, i1);
+  j0 = l7;
+  i0 = (u32)(j0);
+  i1 = l57;
+  i32_store8(j0 + 321, i1);
+  j0 = l7;
+  i0 = (u32)(j0);
+  i1 = l56;
   i32_store8(j0 + 320, i1);
   j0 = l7;
   i0 = (u32)(j0);
   i1 = 0u;
-  i32_store8(j0 + 330, i1);
-  j0 = l7;
-  i0 = (u32)(j0);
-  i1 = 0u;
-  i32_store16(j0 + 402, i1);
-  j0 = l7;
-  i0 = (u32)(j0);
-  i1 = l75;
-  i32_store8(j0 + 401, i1);
-  j0 = l7;
-  i0 = (u32)(j0);
-  i1 = l74;
-  i32_store8(j0 + 400, i1);
-  j0 = l7;
-  i0 = (u32)(j0);
-  i1 = l22;
-  i32_store(j0 + 396, i1);
-  j0 = l7;
-  i0 = (u32)(j0);
-  i1 = 0u;
-  i32_store16(j0 + 394, i1);
-  j0 = l7;
-  i0 = (u32)(j0);
-  i1 = l23;
-  i32_store16(j0 + 392, i1);
-  j0 = l7;
-  i0 = (u32)(j0);
-  i1 = l24;
-  i32_store16(j0 + 390, i1);
-  j0 = l7;
-  i0 = (u32)(j0);
-  i1 = 0u;
-  i32_store8(j0 + 389, i1);
-  j0 = l7;
-  i0 = (u32)(j0);
-  i1 = l72;
-  i32_store8(j0 + 388, i1);
-  j0 = l7;
-  i0 = (u32)(j0);
-  i1 = l71;
-  i32_store8(j0 + 387, i1);
-  j0 = l7;
-  i0 = (u32)(j0);
-  i1 = l70;
-  i32_store8(j0 + 386, i1);
-  j0 = l7;
-  i0 = (u32)(j0);
-  i1 = l25;
-  i32_store16(j0 + 384, i1);
-  j0 = l7;
-  i0 = (u32)(j0);
-  i1 = l69;
-  i32_store16(j0 + 382, i1);
-  j0 = l7;
-  i0 = (u32)(j0);
-  i1 = 0u;
-  i32_store16(j0 + 380, i1);
-  j0 = l7;
-  i0 = (u32)(j0);
-  i1 = l68;
-  i32_store8(j0 + 379, i1);
-  j0 = l7;
-  i0 = (u32)(j0);
-  i1 = 3840u;
-  i32_store16(j0 + 377, i1);
-  j0 = l7;
-  i0 = (u32)(j0);
-  i1 = l67;
-  i32_store8(j0 + 376, i1);
-  j0 = l7;
-  i0 = (u32)(j0);
-  i1 = l26;
-  i32_store8(j0 + 375, i1);
-  j0 = l7;
-  i0 = (u32)(j0);
-  i1 = l27;
-  i32_store8(j0 + 374, i1);
-  j0 = l7;
-  i0 = (u32)(j0);
-  i1 = l28;
-  i32_store8(j0 + 373, i1);
-  j0 = l7;
-  i0 = (u32)(j0);
-  i1 = l29;
-  i32_store8(j0 + 372, i1);
-  j0 = l7;
-  i0 = (u32)(j0);
-  i1 = l30;
-  i32_store8(j0 + 371, i1);
-  j0 = l7;
-  i0 = (u32)(j0);
-  i1 = l31;
-  i32_store8(j0 + 370, i1);
-  j0 = l7;
-  i0 = (u32)(j0);
-  i1 = l32;
-  i32_store8(j0 + 369, i1);
-  j0 = l7;
-  i0 = (u32)(j0);
-  i1 = l33;
-  i32_store8(j0 + 368, i1);
-  j0 = l7;
-  i0 = (u32)(j0);
-  i1 = l66;
-  i32_store8(j0 + 367, i1);
-  j0 = l7;
-  i0 = (u32)(j0);
-  i1 = l65;
-  i32_store8(j0 + 366, i1);
-  j0 = l7;
-  i0 = (u32)(j0);
-  i1 = l64;
-  i32_store8(j0 + 365, i1);
-  j0 = l7;
-  i0 = (u32)(j0);
-  i1 = l63;
-  i32_store8(j0 + 364, i1);
-  j0 = l7;
-  i0 = (u32)(j0);
-  i1 = l62;
-  i32_store8(j0 + 363, i1);
-  j0 = l7;
-  i0 = (u32)(j0);
-  i1 = l61;
-  i32_store8(j0 + 362, i1);
-  j0 = l7;
-  i0 = (u32)(j0);
-  i1 = l60;
-  i32_store8(j0 + 361, i1);
-  j0 = l7;
-  i0 = (u32)(j0);
-  i1 = 255u;
-  i32_store16(j0 + 359, i1);
-  j0 = l7;
-  i0 = (u32)(j0);
-  i1 = l34;
-  i32_store8(j0 + 358, i1);
-  j0 = l7;
-  i0 = (u32)(j0);
-  i1 = l35;
-  i32_store8(j0 + 357, i1);
-  j0 = l7;
-  i0 = (u32)(j0);
-  i1 = l36;
-  i32_store8(j0 + 356, i1);
-  j0 = l7;
-  i0 = (u32)(j0);
-  i1 = l59;
-  i32_store8(j0 + 355, i1);
-  j0 = l7;
-  i0 = (u32)(j0);
-  i1 = l37;
-  i32_store8(j0 + 354, i1);
-  j0 = l7;
-  i0 = (u32)(j0);
-  i1 = l38;
-  i32_store8(j0 + 353, i1);
-  j0 = l7;
-  i0 = (u32)(j0);
-  i1 = l39;
-  i32_store8(j0 + 352, i1);
-  j0 = l7;
-  i0 = (u32)(j0);
-  i1 = l40;
-  i32_store8(j0 + 351, i1);
-  j0 = l7;
-  i0 = (u32)(j0);
-  i1 = 0u;
-  i32_store(j0 + 347, i1);
-  j0 = l7;
-  i0 = (u32)(j0);
-  i1 = l58;
-  i32_store8(j0 + 346, i1);
-  j0 = l7;
-  i0 = (u32)(j0);
-  i1 = l57;
-  i32_store8(j0 + 345, i1);
-  j0 = l7;
-  i0 = (u32)(j0);
-  i1 = l56;
-  i32_store8(j0 + 344, i1);
-  j0 = l7;
-  i0 = (u32)(j0);
-  i1 = 0u;
-  i32_store8(j0 + 343, i1);
+  i32_store8(j0 + 319, i1);
   j0 = l7;
   i0 = (u32)(j0);
   i1 = l41;
-  i32_store8(j0 + 342, i1);
+  i32_store8(j0 + 318, i1);
   j0 = l7;
   i0 = (u32)(j0);
   i1 = l42;
-  i32_store8(j0 + 341, i1);
+  i32_store8(j0 + 317, i1);
   j0 = l7;
   i0 = (u32)(j0);
   i1 = l43;
-  i32_store8(j0 + 340, i1);
+  i32_store8(j0 + 316, i1);
   j0 = l7;
   i0 = (u32)(j0);
   i1 = l44;
-  i32_store8(j0 + 339, i1);
+  i32_store8(j0 + 315, i1);
   j0 = l7;
   i0 = (u32)(j0);
   i1 = l45;
-  i32_store8(j0 + 338, i1);
+  i32_store8(j0 + 314, i1);
   j0 = l7;
   i0 = (u32)(j0);
   i1 = l20;
-  i32_store8(j0 + 337, i1);
+  i32_store8(j0 + 313, i1);
   j0 = l7;
   i0 = (u32)(j0);
   i1 = l46;
-  i32_store8(j0 + 336, i1);
+  i32_store8(j0 + 312, i1);
   j0 = l7;
   i0 = (u32)(j0);
   i1 = l47;
-  i32_store8(j0 + 335, i1);
+  i32_store8(j0 + 311, i1);
   j0 = l7;
   i0 = (u32)(j0);
   i1 = 255u;
-  i32_store8(j0 + 334, i1);
+  i32_store8(j0 + 310, i1);
   j0 = l7;
   i0 = (u32)(j0);
   i1 = l55;
-  i32_store8(j0 + 333, i1);
+  i32_store8(j0 + 309, i1);
   j0 = l7;
   i0 = (u32)(j0);
   i1 = l54;
-  i32_store8(j0 + 332, i1);
+  i32_store8(j0 + 308, i1);
   j0 = l7;
   i0 = (u32)(j0);
   i1 = l53;
-  i32_store8(j0 + 331, i1);
+  i32_store8(j0 + 307, i1);
   j0 = l7;
   i0 = (u32)(j0);
   i1 = l52;
-  i32_store8(j0 + 325, i1);
+  i32_store8(j0 + 301, i1);
   j0 = l7;
   i0 = (u32)(j0);
   i1 = l51;
-  i32_store8(j0 + 323, i1);
+  i32_store8(j0 + 299, i1);
   j0 = l7;
   i0 = (u32)(j0);
   i1 = l49;
-  i32_store8(j0 + 322, i1);
+  i32_store8(j0 + 298, i1);
   j0 = p1;
   j1 = 2003ull;
   j0 += j1;
@@ -61597,9 +61939,9 @@ static void f62(module *self, u64 p0, u64 p1, u64 p2, u64 p3, u64 p4, u64 p5, u6
   j0 = p1;
   j1 = 73ull;
   j0 += j1;
-  p6 = j0;
+  p5 = j0;
   i0 = (u32)(j0);
-  j1 = p6;
+  j1 = p5;
   i1 = (u32)(j1);
   i1 = i32_load8_u(j1);
   i2 = 1u;
@@ -61608,9 +61950,9 @@ static void f62(module *self, u64 p0, u64 p1, u64 p2, u64 p3, u64 p4, u64 p5, u6
   j0 = p1;
   j1 = 72ull;
   j0 += j1;
-  p6 = j0;
+  p5 = j0;
   i0 = (u32)(j0);
-  j1 = p6;
+  j1 = p5;
   i1 = (u32)(j1);
   i1 = i32_load8_u(j1);
   i2 = 1u;
@@ -61625,9 +61967,9 @@ static void f62(module *self, u64 p0, u64 p1, u64 p2, u64 p3, u64 p4, u64 p5, u6
   j0 = p1;
   j1 = 69ull;
   j0 += j1;
-  p6 = j0;
+  p5 = j0;
   i0 = (u32)(j0);
-  j1 = p6;
+  j1 = p5;
   i1 = (u32)(j1);
   i1 = i32_load8_u(j1);
   i2 = 1u;
@@ -61736,28 +62078,28 @@ static void f62(module *self, u64 p0, u64 p1, u64 p2, u64 p3, u64 p4, u64 p5, u6
   i2 = 12u;
   j3 = l7;
   i3 = (u32)(j3);
-  i3 = i32_load8_u(j3 + 347u);
+  i3 = i32_load8_u(j3 + 323u);
   f64(self, j0, i1, i2, i3);
   j0 = p1;
   i1 = l24;
   i2 = 13u;
   j3 = l7;
   i3 = (u32)(j3);
-  i3 = i32_load8_u(j3 + 348u);
+  i3 = i32_load8_u(j3 + 324u);
   f64(self, j0, i1, i2, i3);
   j0 = p1;
   i1 = l24;
   i2 = 14u;
   j3 = l7;
   i3 = (u32)(j3);
-  i3 = i32_load8_u(j3 + 349u);
+  i3 = i32_load8_u(j3 + 325u);
   f64(self, j0, i1, i2, i3);
   j0 = p1;
   i1 = l24;
   i2 = 15u;
   j3 = l7;
   i3 = (u32)(j3);
-  i3 = i32_load8_u(j3 + 350u);
+  i3 = i32_load8_u(j3 + 326u);
   f64(self, j0, i1, i2, i3);
   j0 = p1;
   i1 = l24;
@@ -61805,21 +62147,21 @@ static void f62(module *self, u64 p0, u64 p1, u64 p2, u64 p3, u64 p4, u64 p5, u6
   i3 = 255u;
   f64(self, j0, i1, i2, i3);
   j0 = l7;
-  j1 = 360ull;
+  j1 = 336ull;
   j0 += j1;
   l9 = j0;
   j0 = l7;
-  j1 = 326ull;
+  j1 = 302ull;
   j0 += j1;
-  p5 = j0;
-  j0 = 0ull;
   p6 = j0;
-  L138: 
+  j0 = 0ull;
+  p5 = j0;
+  L140: 
     j0 = p1;
     j1 = 57ull;
     j0 += j1;
     i0 = (u32)(j0);
-    j1 = p6;
+    j1 = p5;
     i1 = (u32)(j1);
     i2 = 15u;
     i1 &= i2;
@@ -61828,9 +62170,9 @@ static void f62(module *self, u64 p0, u64 p1, u64 p2, u64 p3, u64 p4, u64 p5, u6
     i0 = l39;
     i1 = 8u;
     i0 = i0 > i1;
-    if (i0) {goto B139;}
-    j0 = p5;
-    j1 = p6;
+    if (i0) {goto B141;}
+    j0 = p6;
+    j1 = p5;
     j0 += j1;
     i0 = (u32)(j0);
     i0 = i32_load8_u(j0);
@@ -61838,14 +62180,14 @@ static void f62(module *self, u64 p0, u64 p1, u64 p2, u64 p3, u64 p4, u64 p5, u6
     i1 = 32u;
     i0 &= i1;
     i0 = !(i0);
-    if (i0) {goto B140;}
+    if (i0) {goto B142;}
     i0 = l39;
     i1 = 5u;
     i0 = i0 == i1;
-    if (i0) {goto B139;}
-    B140:;
+    if (i0) {goto B141;}
+    B142:;
     j0 = p1;
-    j1 = p6;
+    j1 = p5;
     j0 += j1;
     l8 = j0;
     j1 = 47ull;
@@ -61931,7 +62273,7 @@ static void f62(module *self, u64 p0, u64 p1, u64 p2, u64 p3, u64 p4, u64 p5, u6
     j1 <<= (j2 & 63);
     l8 = j1;
     i1 = (u32)(j1);
-    i1 = i32_load(j1 + 1051784u);
+    i1 = i32_load(j1 + 1051804u);
     i32_store(j0, i1);
     j0 = p1;
     j1 = 60ull;
@@ -61939,7 +62281,7 @@ static void f62(module *self, u64 p0, u64 p1, u64 p2, u64 p3, u64 p4, u64 p5, u6
     i0 = (u32)(j0);
     j1 = l8;
     i1 = (u32)(j1);
-    i1 = i32_load(j1 + 1051768u);
+    i1 = i32_load(j1 + 1051788u);
     i32_store(j0, i1);
     j0 = p1;
     j1 = 72ull;
@@ -61977,14 +62319,14 @@ static void f62(module *self, u64 p0, u64 p1, u64 p2, u64 p3, u64 p4, u64 p5, u6
     i2 = !(i2);
     i1 &= i2;
     i32_store8(j0, i1);
-    B139:;
-    j0 = p6;
+    B141:;
+    j0 = p5;
     j1 = 1ull;
     j0 += j1;
-    p6 = j0;
+    p5 = j0;
     j1 = 9ull;
     i0 = j0 != j1;
-    if (i0) {goto L138;}
+    if (i0) {goto L140;}
   j0 = l7;
   j1 = 8ull;
   j0 += j1;
@@ -62006,7 +62348,7 @@ static void f62(module *self, u64 p0, u64 p1, u64 p2, u64 p3, u64 p4, u64 p5, u6
   l20 = i0;
   i1 = 1u;
   i0 = i0 != i1;
-  if (i0) {goto B143;}
+  if (i0) {goto B145;}
   j0 = p1;
   j1 = 204ull;
   j0 += j1;
@@ -62018,20 +62360,20 @@ static void f62(module *self, u64 p0, u64 p1, u64 p2, u64 p3, u64 p4, u64 p5, u6
   l48 = i0;
   i1 = 20u;
   i0 = i0 > i1;
-  if (i0) {goto B141;}
+  if (i0) {goto B143;}
   i0 = l48;
   i1 = 15u;
   i0 = i0 > i1;
-  if (i0) {goto B144;}
+  if (i0) {goto B146;}
   i0 = l49;
   i1 = 32u;
   i0 &= i1;
-  if (i0) {goto B142;}
-  B144:;
+  if (i0) {goto B144;}
+  B146:;
   j0 = p1;
   i1 = l48;
   j1 = (u64)(i1);
-  p6 = j1;
+  p5 = j1;
   j0 += j1;
   j1 = 167ull;
   j0 += j1;
@@ -62039,8 +62381,8 @@ static void f62(module *self, u64 p0, u64 p1, u64 p2, u64 p3, u64 p4, u64 p5, u6
   j1 = p1;
   j2 = 146ull;
   j1 += j2;
-  p5 = j1;
-  j2 = p6;
+  p6 = j1;
+  j2 = p5;
   j1 += j2;
   i1 = (u32)(j1);
   i1 = i32_load8_u(j1);
@@ -62048,9 +62390,9 @@ static void f62(module *self, u64 p0, u64 p1, u64 p2, u64 p3, u64 p4, u64 p5, u6
   i1 &= i2;
   i32_store8(j0, i1);
   j0 = l7;
-  j1 = 304ull;
+  j1 = 440ull;
   j0 += j1;
-  j1 = p5;
+  j1 = p6;
   f28(self, j0, j1);
   j0 = p1;
   j1 = 196ull;
@@ -62058,7 +62400,7 @@ static void f62(module *self, u64 p0, u64 p1, u64 p2, u64 p3, u64 p4, u64 p5, u6
   i0 = (u32)(j0);
   j1 = l7;
   i1 = (u32)(j1);
-  j1 = i64_load(j1 + 312u);
+  j1 = i64_load(j1 + 448u);
   i64_store(j0, j1);
   j0 = p1;
   j1 = 188ull;
@@ -62066,17 +62408,17 @@ static void f62(module *self, u64 p0, u64 p1, u64 p2, u64 p3, u64 p4, u64 p5, u6
   i0 = (u32)(j0);
   j1 = l7;
   i1 = (u32)(j1);
-  j1 = i64_load(j1 + 304u);
+  j1 = i64_load(j1 + 440u);
   i64_store(j0, j1);
-  goto B142;
-  B143:;
+  goto B144;
+  B145:;
   j0 = p1;
   j1 = 204ull;
   j0 += j1;
   i0 = (u32)(j0);
   i1 = 32u;
   i32_store8(j0, i1);
-  B142:;
+  B144:;
   j0 = p1;
   j1 = 205ull;
   j0 += j1;
@@ -62085,7 +62427,7 @@ static void f62(module *self, u64 p0, u64 p1, u64 p2, u64 p3, u64 p4, u64 p5, u6
   i2 = 1u;
   i1 ^= i2;
   i32_store8(j0, i1);
-  B141:;
+  B143:;
   j0 = l7;
   j1 = p1;
   i2 = l39;
@@ -62099,20 +62441,20 @@ static void f62(module *self, u64 p0, u64 p1, u64 p2, u64 p3, u64 p4, u64 p5, u6
   j0 = l7;
   i0 = (u32)(j0);
   i1 = 0u;
-  i32_store8(j0 + 306, i1);
+  i32_store8(j0 + 442, i1);
   j0 = l7;
   i0 = (u32)(j0);
   i1 = 0u;
-  i32_store16(j0 + 304, i1);
+  i32_store16(j0 + 440, i1);
   j0 = 0ull;
-  p5 = j0;
+  p6 = j0;
   j0 = 0ull;
   l8 = j0;
   i0 = 0u;
   l39 = i0;
-  L145: 
+  L147: 
     j0 = l7;
-    j1 = 304ull;
+    j1 = 440ull;
     j0 += j1;
     i1 = l75;
     i2 = l39;
@@ -62120,61 +62462,61 @@ static void f62(module *self, u64 p0, u64 p1, u64 p2, u64 p3, u64 p4, u64 p5, u6
     j0 = p1;
     j1 = l8;
     j0 += j1;
-    p6 = j0;
+    p5 = j0;
     j1 = 718ull;
     j0 += j1;
     i0 = (u32)(j0);
     j1 = l7;
     i1 = (u32)(j1);
-    i1 = i32_load8_u(j1 + 306u);
+    i1 = i32_load8_u(j1 + 442u);
     i2 = 63u;
     i1 &= i2;
     l49 = i1;
     i32_store8(j0, i1);
-    j0 = p6;
+    j0 = p5;
     j1 = 462ull;
     j0 += j1;
     i0 = (u32)(j0);
     j1 = l7;
     i1 = (u32)(j1);
-    i1 = i32_load8_u(j1 + 305u);
+    i1 = i32_load8_u(j1 + 441u);
     i2 = 63u;
     i1 &= i2;
     l20 = i1;
     i32_store8(j0, i1);
-    j0 = p6;
+    j0 = p5;
     j1 = 206ull;
     j0 += j1;
     i0 = (u32)(j0);
     j1 = l7;
     i1 = (u32)(j1);
-    i1 = i32_load8_u(j1 + 304u);
+    i1 = i32_load8_u(j1 + 440u);
     i2 = 63u;
     i1 &= i2;
     l48 = i1;
     i32_store8(j0, i1);
     j0 = p1;
-    j1 = p5;
+    j1 = p6;
     j0 += j1;
-    p6 = j0;
+    p5 = j0;
     j1 = 974ull;
     j0 += j1;
     i0 = (u32)(j0);
     i1 = l48;
     i32_store8(j0, i1);
-    j0 = p6;
+    j0 = p5;
     j1 = 975ull;
     j0 += j1;
     i0 = (u32)(j0);
     i1 = l20;
     i32_store8(j0, i1);
-    j0 = p6;
+    j0 = p5;
     j1 = 976ull;
     j0 += j1;
     i0 = (u32)(j0);
     i1 = l49;
     i32_store8(j0, i1);
-    j0 = p6;
+    j0 = p5;
     j1 = 977ull;
     j0 += j1;
     i0 = (u32)(j0);
@@ -62188,13 +62530,13 @@ static void f62(module *self, u64 p0, u64 p1, u64 p2, u64 p3, u64 p4, u64 p5, u6
     i1 = 1u;
     i0 += i1;
     l39 = i0;
-    j0 = p5;
+    j0 = p6;
     j1 = 4ull;
     j0 += j1;
-    p5 = j0;
+    p6 = j0;
     j1 = 1024ull;
     i0 = j0 != j1;
-    if (i0) {goto L145;}
+    if (i0) {goto L147;}
   j0 = p1;
   j1 = 2001ull;
   j0 += j1;
@@ -62215,7 +62557,7 @@ static void f62(module *self, u64 p0, u64 p1, u64 p2, u64 p3, u64 p4, u64 p5, u6
   i32_store16(j0, i1);
   i0 = l73;
   i0 = !(i0);
-  if (i0) {goto B147;}
+  if (i0) {goto B149;}
   j0 = 1099511627792ull;
   j1 = p1;
   j2 = p3;
@@ -62225,26 +62567,26 @@ static void f62(module *self, u64 p0, u64 p1, u64 p2, u64 p3, u64 p4, u64 p5, u6
   i0 = l21;
   i1 = 1u;
   i0 &= i1;
-  if (i0) {goto B146;}
+  if (i0) {goto B148;}
   j0 = p1;
   i1 = l22;
   i2 = 32768u;
   i3 = 32u;
   i4 = 7u;
   f55(self, j0, i1, i2, i3, i4);
-  goto B146;
-  B147:;
+  goto B148;
+  B149:;
   i0 = l21;
   i1 = 1u;
   i0 &= i1;
-  if (i0) {goto B146;}
+  if (i0) {goto B148;}
   j0 = p1;
   i1 = 655360u;
   i2 = 65536u;
   i3 = 0u;
   i4 = 0u;
   f55(self, j0, i1, i2, i3, i4);
-  B146:;
+  B148:;
   j0 = p2;
   i0 = (u32)(j0);
   j1 = 0ull;
@@ -62302,55 +62644,62 @@ static void f62(module *self, u64 p0, u64 p1, u64 p2, u64 p3, u64 p4, u64 p5, u6
   j0 = l7;
   i0 = (u32)(j0);
   i1 = 0u;
-  i32_store(j0 + 264, i1);
+  i32_store(j0 + 256, i1);
   j0 = l7;
   i0 = (u32)(j0);
   i1 = 0u;
-  i32_store(j0 + 267, i1);
+  i32_store(j0 + 259, i1);
+  B4:;
   i0 = 0u;
   l20 = i0;
+  goto B1;
+  B2:;
+  j0 = 0ull;
+  p4 = j0;
+  i0 = 1u;
+  l39 = i0;
   B1:;
   j0 = l7;
   i0 = (u32)(j0);
   i1 = 0u;
-  i32_store(j0 + 323, i1);
+  i32_store(j0 + 299, i1);
   j0 = l7;
   i0 = (u32)(j0);
   i1 = 0u;
-  i32_store(j0 + 320, i1);
+  i32_store(j0 + 296, i1);
   j0 = 0ull;
   p1 = j0;
   i0 = l39;
-  if (i0) {goto B148;}
+  if (i0) {goto B150;}
   j0 = l7;
   i0 = (u32)(j0);
   j1 = l7;
   i1 = (u32)(j1);
-  i1 = i32_load(j1 + 267u);
-  i32_store(j0 + 323, i1);
+  i1 = i32_load(j1 + 259u);
+  i32_store(j0 + 299, i1);
   j0 = l7;
   i0 = (u32)(j0);
   j1 = l7;
   i1 = (u32)(j1);
-  i1 = i32_load(j1 + 264u);
-  i32_store(j0 + 320, i1);
+  i1 = i32_load(j1 + 256u);
+  i32_store(j0 + 296, i1);
   i0 = 0u;
   l20 = i0;
   j0 = p4;
   p1 = j0;
-  B148:;
+  B150:;
   j0 = l7;
   i0 = (u32)(j0);
   j1 = l7;
   i1 = (u32)(j1);
-  i1 = i32_load(j1 + 323u);
-  i32_store(j0 + 291, i1);
+  i1 = i32_load(j1 + 299u);
+  i32_store(j0 + 283, i1);
   j0 = l7;
   i0 = (u32)(j0);
   j1 = l7;
   i1 = (u32)(j1);
-  i1 = i32_load(j1 + 320u);
-  i32_store(j0 + 288, i1);
+  i1 = i32_load(j1 + 296u);
+  i32_store(j0 + 280, i1);
   j0 = p0;
   j1 = 16ull;
   j0 += j1;
@@ -62385,7 +62734,7 @@ static void f62(module *self, u64 p0, u64 p1, u64 p2, u64 p3, u64 p4, u64 p5, u6
   i0 = (u32)(j0);
   j1 = l7;
   i1 = (u32)(j1);
-  i1 = i32_load(j1 + 288u);
+  i1 = i32_load(j1 + 280u);
   i32_store(j0, i1);
   j0 = p0;
   j1 = 20ull;
@@ -62393,7 +62742,7 @@ static void f62(module *self, u64 p0, u64 p1, u64 p2, u64 p3, u64 p4, u64 p5, u6
   i0 = (u32)(j0);
   j1 = l7;
   i1 = (u32)(j1);
-  i1 = i32_load(j1 + 291u);
+  i1 = i32_load(j1 + 283u);
   i32_store(j0, i1);
   j0 = p0;
   j1 = 24ull;
@@ -62409,7 +62758,7 @@ static void f62(module *self, u64 p0, u64 p1, u64 p2, u64 p3, u64 p4, u64 p5, u6
   i64_store(j0, j1);
   B0:;
   j0 = l7;
-  j1 = 448ull;
+  j1 = 464ull;
   j0 += j1;
   self->g0 = j0;
 }
@@ -63267,13 +63616,13 @@ static void f63(module *self, u64 p0, u64 p1, u64 p2, u64 p3, u32 p4) {
   j1 <<= (j2 & 63);
   p1 = j1;
   i1 = (u32)(j1);
-  i1 = i32_load(j1 + 1051784u);
+  i1 = i32_load(j1 + 1051804u);
   i32_store(j0, i1);
   j0 = l10;
   i0 = (u32)(j0);
   j1 = p1;
   i1 = (u32)(j1);
-  i1 = i32_load(j1 + 1051768u);
+  i1 = i32_load(j1 + 1051788u);
   i32_store(j0, i1);
 }
 
@@ -63355,7 +63704,7 @@ static void f64(module *self, u64 p0, u32 p1, u32 p2, u32 p3) {
   j1 = 65535ull;
   j0 &= j1;
   i0 = (u32)(j0);
-  i0 = i32_load8_u(j0 + 1052008u);
+  i0 = i32_load8_u(j0 + 1052032u);
   l6 = i0;
   B1:;
   j0 = l4;
@@ -63433,7 +63782,7 @@ static void f64(module *self, u64 p0, u32 p1, u32 p2, u32 p3) {
   j1 = 65535ull;
   j0 &= j1;
   i0 = (u32)(j0);
-  i0 = i32_load8_u(j0 + 1052008u);
+  i0 = i32_load8_u(j0 + 1052032u);
   l6 = i0;
   B5:;
   j0 = l4;
@@ -63654,7 +64003,7 @@ static void f65(module *self, u64 p0, u64 p1, u64 p2, u32 p3, u64 p4) {
   j1 <<= (j2 & 63);
   p2 = j1;
   i1 = (u32)(j1);
-  i1 = i32_load(j1 + 1051784u);
+  i1 = i32_load(j1 + 1051804u);
   i32_store(j0, i1);
   j0 = p1;
   j1 = 60ull;
@@ -63662,7 +64011,7 @@ static void f65(module *self, u64 p0, u64 p1, u64 p2, u32 p3, u64 p4) {
   i0 = (u32)(j0);
   j1 = p2;
   i1 = (u32)(j1);
-  i1 = i32_load(j1 + 1051768u);
+  i1 = i32_load(j1 + 1051788u);
   i32_store(j0, i1);
   j0 = p1;
   j1 = 72ull;
@@ -63989,7 +64338,7 @@ static void f65(module *self, u64 p0, u64 p1, u64 p2, u32 p3, u64 p4) {
   j1 <<= (j2 & 63);
   l28 = j1;
   i1 = (u32)(j1);
-  i1 = i32_load(j1 + 1051784u);
+  i1 = i32_load(j1 + 1051804u);
   i32_store(j0, i1);
   j0 = p1;
   j1 = 60ull;
@@ -63997,7 +64346,7 @@ static void f65(module *self, u64 p0, u64 p1, u64 p2, u32 p3, u64 p4) {
   i0 = (u32)(j0);
   j1 = l28;
   i1 = (u32)(j1);
-  i1 = i32_load(j1 + 1051768u);
+  i1 = i32_load(j1 + 1051788u);
   i32_store(j0, i1);
   j0 = p1;
   j1 = 72ull;
@@ -65084,7 +65433,7 @@ static void f66(module *self, u64 p0, u64 p1, u32 p2, u32 p3, u32 p4, u32 p5) {
   j1 <<= (j2 & 63);
   p1 = j1;
   i1 = (u32)(j1);
-  i1 = i32_load(j1 + 1051784u);
+  i1 = i32_load(j1 + 1051804u);
   i32_store(j0, i1);
   j0 = p0;
   j1 = 60ull;
@@ -65093,7 +65442,7 @@ static void f66(module *self, u64 p0, u64 p1, u32 p2, u32 p3, u32 p4, u32 p5) {
   i0 = (u32)(j0);
   j1 = p1;
   i1 = (u32)(j1);
-  i1 = i32_load(j1 + 1051768u);
+  i1 = i32_load(j1 + 1051788u);
   i32_store(j0, i1);
   j0 = p0;
   j1 = 72ull;
@@ -65503,13 +65852,13 @@ static void f66(module *self, u64 p0, u64 p1, u32 p2, u32 p3, u32 p4, u32 p5) {
   j1 <<= (j2 & 63);
   p0 = j1;
   i1 = (u32)(j1);
-  i1 = i32_load(j1 + 1051784u);
+  i1 = i32_load(j1 + 1051804u);
   i32_store(j0, i1);
   j0 = l19;
   i0 = (u32)(j0);
   j1 = p0;
   i1 = (u32)(j1);
-  i1 = i32_load(j1 + 1051768u);
+  i1 = i32_load(j1 + 1051788u);
   i32_store(j0, i1);
   j0 = l20;
   i0 = (u32)(j0);
@@ -69755,7 +70104,7 @@ static void f76(module *self, u64 p0, u64 p1, u32 p2, u32 p3) {
   j1 <<= (j2 & 63);
   l5 = j1;
   i1 = (u32)(j1);
-  i1 = i32_load(j1 + 1051768u);
+  i1 = i32_load(j1 + 1051788u);
   i32_store(j0, i1);
   j0 = p1;
   j1 = 64ull;
@@ -69763,7 +70112,7 @@ static void f76(module *self, u64 p0, u64 p1, u32 p2, u32 p3) {
   i0 = (u32)(j0);
   j1 = l5;
   i1 = (u32)(j1);
-  i1 = i32_load(j1 + 1051784u);
+  i1 = i32_load(j1 + 1051804u);
   i32_store(j0, i1);
   j0 = p1;
   j1 = 72ull;
@@ -70100,7 +70449,7 @@ static void f77(module *self, u64 p0, u64 p1, u32 p2, u32 p3, u32 p4) {
   j1 = 65535ull;
   j0 &= j1;
   i0 = (u32)(j0);
-  i0 = i32_load8_u(j0 + 1052008u);
+  i0 = i32_load8_u(j0 + 1052032u);
   l8 = i0;
   B1:;
   j0 = l5;
@@ -70194,7 +70543,7 @@ static void f77(module *self, u64 p0, u64 p1, u32 p2, u32 p3, u32 p4) {
   j1 = 65535ull;
   j0 &= j1;
   i0 = (u32)(j0);
-  i0 = i32_load8_u(j0 + 1052008u);
+  i0 = i32_load8_u(j0 + 1052032u);
   l8 = i0;
   B5:;
   j0 = l5;
@@ -80116,20 +80465,10 @@ static u32 f87(module *self, u64 p0, u64 p1, u64 p2) {
   i0 = i0 > i1;
   if (i0) {goto B0;}
   j0 = p1;
-  j1 = 75ull;
-  j0 += j1;
-  i0 = (u32)(j0);
-  i0 = i32_load8_u(j0);
-  i1 = 31u;
-  i0 = i0 > i1;
-  if (i0) {goto B0;}
-  j0 = p1;
   j1 = 72ull;
   j0 += j1;
   i0 = (u32)(j0);
   i0 = i32_load8_u(j0);
-  i1 = 255u;
-  i0 &= i1;
   i1 = 8u;
   i0 = i0 > i1;
   if (i0) {goto B0;}
@@ -80161,6 +80500,14 @@ static u32 f87(module *self, u64 p0, u64 p1, u64 p2) {
   i1 = 65535u;
   i0 &= i1;
   i1 = 259u;
+  i0 = i0 > i1;
+  if (i0) {goto B0;}
+  j0 = p1;
+  j1 = 75ull;
+  j0 += j1;
+  i0 = (u32)(j0);
+  i0 = i32_load8_u(j0);
+  i1 = 31u;
   i0 = i0 > i1;
   if (i0) {goto B0;}
   j0 = p1;
@@ -82823,11 +83170,11 @@ static void f91(module *self, u64 p0, u64 p1, u64 p2, u64 p3, u64 p4, u64 p5, u6
   j0 <<= (j1 & 63);
   p3 = j0;
   i0 = (u32)(j0);
-  j0 = i64_load(j0 + 1051904u);
+  j0 = i64_load(j0 + 1051928u);
   p4 = j0;
   j0 = p3;
   i0 = (u32)(j0);
-  j0 = i64_load(j0 + 1051800u);
+  j0 = i64_load(j0 + 1051824u);
   l13 = j0;
   j1 = p2;
   j2 = 72ull;
@@ -86060,7 +86407,7 @@ static void f95(module *self, u64 p0, u64 p1, u64 p2, u64 p3, u64 p4) {
   j0 <<= (j1 & 63);
   p2 = j0;
   i0 = (u32)(j0);
-  j0 = i64_load(j0 + 1051800u);
+  j0 = i64_load(j0 + 1051824u);
   p4 = j0;
   i0 = !(j0);
   if (i0) {goto B8;}
@@ -86070,7 +86417,7 @@ static void f95(module *self, u64 p0, u64 p1, u64 p2, u64 p3, u64 p4) {
   i0 = (u32)(j0);
   j1 = p2;
   i1 = (u32)(j1);
-  j1 = i64_load(j1 + 1051904u);
+  j1 = i64_load(j1 + 1051928u);
   i1 = (u32)(j1);
   j2 = p4;
   i2 = (u32)(j2);
@@ -95767,7 +96114,7 @@ static void f99(module *self, u64 p0, u64 p1, u64 p2, u64 p3, u64 p4, u64 p5) {
     j1 = 65535ull;
     j0 &= j1;
     i0 = (u32)(j0);
-    i0 = i32_load8_u(j0 + 1052008u);
+    i0 = i32_load8_u(j0 + 1052032u);
     l46 = i0;
     B98:;
     j0 = l6;
@@ -103956,7 +104303,7 @@ static u32 module_zak_assemble(module *self, u64 p0, u64 p1, u64 p2, u64 p3, u64
   j0 = (u64)(s64)(s8)(u8)(j0);
   j1 = 2ull;
   j0 <<= (j1 & 63);
-  j1 = 1052028ull;
+  j1 = 1052052ull;
   j0 += j1;
   i0 = (u32)(j0);
   i0 = i32_load(j0);
@@ -112814,7 +113161,7 @@ static u32 module_zak_out(module *self, u64 p0, u32 p1, u32 p2) {
   j1 = 65535ull;
   j0 &= j1;
   i0 = (u32)(j0);
-  i0 = i32_load8_u(j0 + 1052024u);
+  i0 = i32_load8_u(j0 + 1052048u);
   l7 = i0;
   B5:;
   j0 = l3;
@@ -116199,7 +116546,7 @@ static u32 module_zak_print(module *self, u64 p0, u64 p1, u64 p2, u64 p3, u64 p4
   j0 = (u64)(s64)(s8)(u8)(j0);
   j1 = 2ull;
   j0 <<= (j1 & 63);
-  j1 = 1052028ull;
+  j1 = 1052052ull;
   j0 += j1;
   i0 = (u32)(j0);
   i0 = i32_load(j0);
@@ -120140,7 +120487,7 @@ static u32 module_zak_run(module *self, u64 p0, u64 p1, u64 p2, u64 p3, u64 p4, 
   j0 = (u64)(s64)(s8)(u8)(j0);
   j1 = 2ull;
   j0 <<= (j1 & 63);
-  j1 = 1052028ull;
+  j1 = 1052052ull;
   j0 += j1;
   i0 = (u32)(j0);
   i0 = i32_load(j0);
@@ -121320,7 +121667,7 @@ static u32 module_zak_run_on(module *self, u64 p0, u64 p1, u64 p2, u32 p3, u32 p
   j0 = (u64)(s64)(s8)(u8)(j0);
   j1 = 2ull;
   j0 <<= (j1 & 63);
-  j1 = 1052028ull;
+  j1 = 1052052ull;
   j0 += j1;
   i0 = (u32)(j0);
   i0 = i32_load(j0);
@@ -123762,11 +124109,11 @@ static u64 f165(module *self, u64 p0) {
   l1 = j0;
   j0 = 0ull;
   i0 = (u32)(j0);
-  j0 = i64_load(j0 + 1052072u);
+  j0 = i64_load(j0 + 1052096u);
   l2 = j0;
   i0 = !(j0);
   if (i0) {goto B10;}
-  j0 = 1052072ull;
+  j0 = 1052096ull;
   l3 = j0;
   j0 = l2;
   i0 = (u32)(j0);
@@ -123804,7 +124151,7 @@ static u64 f165(module *self, u64 p0) {
   l5 = j0;
   j0 = 0ull;
   i0 = (u32)(j0);
-  i0 = i32_load8_u(j0 + 1052080u);
+  i0 = i32_load8_u(j0 + 1052104u);
   if (i0) {goto B5;}
   i0 = self->pages;
   j0 = (u64)(i0);
@@ -123814,12 +124161,12 @@ static u64 f165(module *self, u64 p0) {
   j0 = 0ull;
   i0 = (u32)(j0);
   i1 = 1u;
-  i32_store8(j0 + 1052080, i1);
+  i32_store8(j0 + 1052104, i1);
   j0 = l2;
   j1 = 16ull;
   j0 <<= (j1 & 63);
   l3 = j0;
-  j1 = 1052096ull;
+  j1 = 1052112ull;
   j2 = 15ull;
   j1 += j2;
   j2 = 18446744073709551600ull;
@@ -123836,7 +124183,7 @@ static u64 f165(module *self, u64 p0) {
   j1 -= j2;
   l6 = j1;
   i64_store(j0, j1);
-  j0 = 1052072ull;
+  j0 = 1052096ull;
   l3 = j0;
   L13: 
     j0 = p0;
@@ -123945,7 +124292,7 @@ static u64 f165(module *self, u64 p0) {
   j0 = 0ull;
   i0 = (u32)(j0);
   j1 = l2;
-  i64_store(j0 + 1052072, j1);
+  i64_store(j0 + 1052096, j1);
   goto B3;
   B16:;
   j0 = l7;
@@ -124013,7 +124360,7 @@ static u64 f165(module *self, u64 p0) {
     i0 = (u32)(j0);
     j1 = l5;
     i64_store(j0, j1);
-    j0 = 1052072ull;
+    j0 = 1052096ull;
     l3 = j0;
     j0 = 0ull;
     p0 = j0;
@@ -124084,7 +124431,7 @@ static u64 f165(module *self, u64 p0) {
     j0 = 0ull;
     i0 = (u32)(j0);
     j1 = l2;
-    i64_store(j0 + 1052072, j1);
+    i64_store(j0 + 1052096, j1);
     goto B21;
     B29:;
     j0 = l7;
@@ -124119,7 +124466,7 @@ static u64 f165(module *self, u64 p0) {
     B22:;
     j0 = 0ull;
     i0 = (u32)(j0);
-    j0 = i64_load(j0 + 1052072u);
+    j0 = i64_load(j0 + 1052096u);
     l2 = j0;
     i0 = !(j0);
     if (i0) {goto B19;}
@@ -124135,7 +124482,7 @@ static u64 f165(module *self, u64 p0) {
     j1 = l1;
     i0 = j0 < j1;
     if (i0) {goto B33;}
-    j0 = 1052072ull;
+    j0 = 1052096ull;
     l3 = j0;
     goto B32;
     B33:;
@@ -124267,7 +124614,7 @@ static void f166(module *self, u64 p0, u64 p1, u64 p2, u64 p3, u64 p4) {
   i2 = (u32)(j2);
   memory_copy(j0, j1, j2);
   B3:;
-  j0 = 1052072ull;
+  j0 = 1052096ull;
   p4 = j0;
   j0 = 0ull;
   p3 = j0;
@@ -124337,7 +124684,7 @@ static void f166(module *self, u64 p0, u64 p1, u64 p2, u64 p3, u64 p4) {
   j0 = 0ull;
   i0 = (u32)(j0);
   j1 = l5;
-  i64_store(j0 + 1052072, j1);
+  i64_store(j0 + 1052096, j1);
   goto B8;
   B9:;
   j0 = l6;
@@ -124392,7 +124739,7 @@ static void f167(module *self, u64 p0) {
   j1 = 18446744073709551600ull;
   j0 += j1;
   l1 = j0;
-  j0 = 1052072ull;
+  j0 = 1052096ull;
   l2 = j0;
   j0 = 0ull;
   l3 = j0;
@@ -124462,7 +124809,7 @@ static void f167(module *self, u64 p0) {
   j0 = 0ull;
   i0 = (u32)(j0);
   j1 = l1;
-  i64_store(j0 + 1052072, j1);
+  i64_store(j0 + 1052096, j1);
   goto Bfunc;
   B4:;
   j0 = l4;
@@ -124766,9 +125113,11 @@ static const u8 d0[] = {
   0x6d, 0x20, 0x68, 0x65, 0x72, 0x65, 0x20, 0x6f, 0x6e, 0x2e, 0x4e, 0x6f,
   0x20, 0x73, 0x74, 0x61, 0x74, 0x75, 0x73, 0x20, 0x68, 0x61, 0x73, 0x20,
   0x74, 0x68, 0x69, 0x73, 0x20, 0x6e, 0x75, 0x6d, 0x62, 0x65, 0x72, 0x2e,
-  0x00, 0x00, 0x0a, 0x00, 0x00, 0x00, 0x0a, 0x00, 0x00, 0x00, 0x0b, 0x00,
-  0x00, 0x80, 0x0b, 0x00, 0x00, 0x00, 0x02, 0x00, 0x00, 0x00, 0x01, 0x00,
-  0x00, 0x80, 0x00, 0x00, 0x00, 0x80, 0x00, 0x00, 0x0d, 0x00, 0x00, 0x00,
+  0x02, 0x03, 0x04, 0x05, 0x05, 0x06, 0x07, 0x07, 0x07, 0x08, 0x08, 0x09,
+  0x09, 0x09, 0x09, 0x0a, 0x0c, 0x00, 0x00, 0x00, 0x00, 0x00, 0x0a, 0x00,
+  0x00, 0x00, 0x0a, 0x00, 0x00, 0x00, 0x0b, 0x00, 0x00, 0x80, 0x0b, 0x00,
+  0x00, 0x00, 0x02, 0x00, 0x00, 0x00, 0x01, 0x00, 0x00, 0x80, 0x00, 0x00,
+  0x00, 0x80, 0x00, 0x00, 0x00, 0x00, 0x00, 0x00, 0x0d, 0x00, 0x00, 0x00,
   0x00, 0x00, 0x00, 0x00, 0x0f, 0x00, 0x00, 0x00, 0x00, 0x00, 0x00, 0x00,
   0x09, 0x00, 0x00, 0x00, 0x00, 0x00, 0x00, 0x00, 0x0e, 0x00, 0x00, 0x00,
   0x00, 0x00, 0x00, 0x00, 0x0a, 0x00, 0x00, 0x00, 0x00, 0x00, 0x00, 0x00,
@@ -124796,7 +125145,7 @@ static const u8 d0[] = {
 
 static void start(module *self)
 {
-    memcpy(self->memory + 1048576u, d0, 3496);
+    memcpy(self->memory + 1048576u, d0, 3520);
     self->g0 = 1048576ull;
 }
 

@@ -38,6 +38,14 @@ impl<const H: usize> Font<H> {
         Ok(Font { rows })
     }
 
+    /// A copy of the font. It can only fail with `OutOfMemory`.
+    pub(crate) fn copy(&self, alloc: Global) -> Result<Font<H>, Fault>
+        ensures ok { IfOk result (λ font. font ≡ self.now) }
+        ensures err { IsOkUnless result Fault.OutOfMemory }
+    {
+        Font::of_bytes(alloc, self.rows.as_slice())
+    }
+
     /// The rows are bytes. The clause is for proofs: the function does nothing.
     pub fn bounds(&self)
         ensures { AreBytes self.now }

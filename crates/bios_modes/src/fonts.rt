@@ -1,5 +1,5 @@
 //! The fonts of a file.
-ghost use Rattle.std.specs.Prelude.{◌≡◌, IfOk, IfErr, length};
+ghost use Rattle.std.specs.Prelude.{◌≡◌, IfOk, IfErr, IsOkUnless, length};
 ghost use Rattle.bios_modes.specs.Bounds.{AreFonts};
 ghost use Rattle.bios_modes.specs.Fonts.{IsFontFault, font_file_len, fonts_of};
 
@@ -52,6 +52,18 @@ impl Fonts {
             f8: Font::of_bytes(alloc, f8)?,
             f14: Font::of_bytes(alloc, f14)?,
             f16: Font::of_bytes(alloc, f16)?,
+        })
+    }
+
+    /// A copy of the fonts. It fails only with `OutOfMemory`.
+    pub fn copy(&self, alloc: Global) -> Result<Fonts, Fault>
+        ensures ok { IfOk result (λ fonts. fonts ≡ self.now) }
+        ensures err { IsOkUnless result Fault.OutOfMemory }
+    {
+        Ok(Fonts {
+            f8: self.f8.copy(alloc)?,
+            f14: self.f14.copy(alloc)?,
+            f16: self.f16.copy(alloc)?,
         })
     }
 

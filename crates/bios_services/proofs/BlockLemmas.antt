@@ -36,7 +36,8 @@ use Rattle.bios_services.specs.Tables.{table_refusal}
 use Rattle.bios_services.specs.Blocks.{FittingBlocksAreAccepted, OtherBlockLengthsAreRefused, block_len}
 use Rattle.bios_services.specs.Service.{CallOutcome, service}
 use Rattle.bios_services.proofs.ReasonLemmas.{neither, holds}
-use Rattle.bios_services.proofs.RefusedLemmas.{no_row, refused_in_mode, refusal_of, Ends, call_ends}
+use Rattle.bios_services.specs.CallReasons.{unless_row, no_mode_or, call_refusal}
+use Rattle.bios_services.proofs.RefusedLemmas.{Ends, call_ends}
 
 -- ---- only a wrong block is refused as one
 
@@ -55,14 +56,14 @@ other_or : (x y : Option Refusal) → IsOther x → IsOther y → IsOther (x or 
 other_or None y hx hy = hy
 other_or (Some why) y hx hy = hx
 
-other_set : (d : BiosData) (why : Option Refusal) → IsOther why → IsOther (refused_in_mode d why)
+other_set : (d : BiosData) (why : Option Refusal) → IsOther why → IsOther (no_mode_or d why)
 other_set d why h = by_test (d.mode == 0)
   where
     by_test : (unset : Bool) → IsOther (if unset then Some NoMode else why)
     by_test true = λ e. cc
     by_test false = h
 
-other_row : (why : Refusal) (row : Option ModeRow) → (why ≡ BadBlock → ⊥) → IsOther (no_row why row)
+other_row : (why : Refusal) (row : Option ModeRow) → (why ≡ BadBlock → ⊥) → IsOther (unless_row why row)
 other_row why None h = other_unless false why h
 other_row why (Some row) h = λ e. cc
 
@@ -171,7 +172,7 @@ unknown_other : (unset : Bool) → (if unset then NoMode else BadFunction) ≡ B
 unknown_other true e = cc
 unknown_other false e = cc
 
-call_other : (call : Option Call) (d : BiosData) (len : ℕ) → len ≡ block_len call → IsOther (refusal_of call d len)
+call_other : (call : Option Call) (d : BiosData) (len : ℕ) → len ≡ block_len call → IsOther (call_refusal call d len)
 unfolding refusal_in_mode
 call_other None d len is = other_unless false _ (unknown_other (d.mode == 0))
 call_other (Some (SetMode mode keeps)) d len is = other_row BadMode (mode_row mode) (λ e. cc)
@@ -184,14 +185,14 @@ call_other (Some (InMode asked)) d len is =
     let fits : len ≡ unwrap_or (service_block_len there) 0 = is ∙ ap (λ size. unwrap_or size 0) (sym (same_block d asked)) in
     other_set d _ (block_other (refusal_in_mode_besides_block there d) (service_block_len there) len (service_other there d) fits)
 
-allowed_set : (d : BiosData) (why : Option Refusal) → refused_in_mode d why ≡ None → why ≡ None
+allowed_set : (d : BiosData) (why : Option Refusal) → no_mode_or d why ≡ None → why ≡ None
 allowed_set d why e = by_test (d.mode == 0) e
   where
     by_test : (unset : Bool) → (if unset then Some NoMode else why) ≡ None → why ≡ None
     by_test true e = absurd (cc)
     by_test false e = e
 
-call_whole : (call : Option Call) (d : BiosData) (len : ℕ) → 0 < block_len call → refusal_of call d len ≡ None → len ≡ block_len call
+call_whole : (call : Option Call) (d : BiosData) (len : ℕ) → 0 < block_len call → call_refusal call d len ≡ None → len ≡ block_len call
 unfolding refusal_in_mode
 call_whole None d len some none = absurd (omega (arith, some))
 call_whole (Some (SetMode mode keeps)) d len some none = absurd (omega (arith, some))
@@ -205,7 +206,7 @@ call_whole (Some (InMode asked)) d len some none =
 
 pub calls_accept_only_blocks_that_fit : {S : Type 0} (m : BusMeaning S) → FittingBlocksAreAccepted m
 calls_accept_only_blocks_that_fit {S} m fonts d r block s is e =
-    by_reason (refusal_of (call_of r) d (length block)) (call_other (call_of r) d (length block) is) (call_ends m (call_of r) fonts d r block s)
+    by_reason (call_refusal (call_of r) d (length block)) (call_other (call_of r) d (length block) is) (call_ends m (call_of r) fonts d r block s)
   where
     same : (why : Refusal) → (let x : Result Reply Refusal = Err why in x) ≡ Err BadBlock → Some why ≡ Some BadBlock
     same why e = cc
@@ -216,8 +217,8 @@ calls_accept_only_blocks_that_fit {S} m fonts d r block s is e =
 
 pub others_are_refused : {S : Type 0} (m : BusMeaning S) → OtherBlockLengthsAreRefused m
 others_are_refused {S} m fonts d r block s reply some other e =
-    by_reason (refusal_of (call_of r) d (length block)) refl (call_ends m (call_of r) fonts d r block s)
+    by_reason (call_refusal (call_of r) d (length block)) refl (call_ends m (call_of r) fonts d r block s)
   where
-    by_reason : (why : Option Refusal) → refusal_of (call_of r) d (length block) ≡ why → Ends why s d (run m (service fonts d r block) s) → ⊥
+    by_reason : (why : Option Refusal) → call_refusal (call_of r) d (length block) ≡ why → Ends why s d (run m (service fonts d r block) s) → ⊥
     by_reason (Some why) is ends = let both = sym (ap (λ (x : S × CallOutcome). x.1.0) ends) ∙ e in cc
     by_reason None is ends = other (call_whole (call_of r) d (length block) some is)

@@ -23,28 +23,12 @@ use Rattle.bios_services.specs.Calls.{call_of}
 use Rattle.bios_services.specs.ModeSet.{mode_set_plan}
 use Rattle.bios_services.specs.Reasons.{◌or◌}
 use Rattle.bios_services.specs.GlyphLoads.{load_refusal, load_plan}
-use Rattle.bios_services.specs.Refusals.{service_with_page_or_0_if_only_one, refusal_in_mode, refusal_of_unknown_call}
+use Rattle.bios_services.specs.Refusals.{service_with_page_or_0_if_only_one, refusal_in_mode}
+use Rattle.bios_services.specs.CallReasons.{unless_row, call_refusal, refusal_in_answer, CallsEndByTheirRefusals}
 use Rattle.bios_services.specs.Tables.{table_plan, table_refusal}
 use Rattle.bios_services.specs.Service.{RefusedCallsDoNothing, CallOutcome, answer_with, call_plan, service_in_mode_plan, load_if_height_exists, load_unless_refused_plan, load_in_mode_plan, plan_of_service}
 use Rattle.bios_services.specs.Service.{refusal_plan, service, set_mode_plan, table_in_mode_plan, table_unless_refused_plan, unless_refused_plan}
 use Rattle.bios_services.proofs.PlanRuns.{run_bind}
-
--- a reason, unless there is a row
-abbrev pub no_row : Refusal → Option ModeRow → Option Refusal
-no_row why None = Some why
-no_row why (Some row) = None
-
--- why a call that needs a mode is refused, by its other reason
-abbrev pub refused_in_mode : BiosData → Option Refusal → Option Refusal
-refused_in_mode d why = if d.mode == 0 then Some NoMode else why
-
--- why a call is refused with a block of this length
-abbrev pub refusal_of : Option Call → BiosData → ℕ → Option Refusal
-refusal_of None d len = Some (refusal_of_unknown_call d)
-refusal_of (Some (SetMode mode keeps)) d len = no_row BadMode (mode_row mode)
-refusal_of (Some (ReadTable asked)) d len = refused_in_mode d (table_refusal asked)
-refusal_of (Some (LoadGlyphs load)) d len = refused_in_mode d (load_refusal load d.mode len or no_row BadHeight (mode_row_at_height d.mode load.height))
-refusal_of (Some (InMode asked)) d len = refused_in_mode d (refusal_in_mode (service_with_page_or_0_if_only_one d asked) d len)
 
 -- how a call ends: with a reason, it is refused and nothing has changed; without one, it answers
 abbrev pub Ends : {S : Type 0} → Option Refusal → S → BiosData → S × CallOutcome → Type 0
@@ -68,7 +52,7 @@ if_set m true why p d h s = refl
 if_set m false why p d h s = h s
 
 set_mode_ends : {S : Type 0} (m : BusMeaning S) (row : Option ModeRow) (mode : ℕ) (keeps : Bool) (fonts : FontSet) (d : BiosData) (r : Regs) →
-    EndsBy m (no_row BadMode row) (set_mode_plan row mode keeps fonts d r) d
+    EndsBy m (unless_row BadMode row) (set_mode_plan row mode keeps fonts d r) d
 unfolding set_mode_plan
 set_mode_ends m None mode keeps fonts d r s = refl
 set_mode_ends m (Some row) mode keeps fonts d r s = answers m (mode_set_plan row keeps fonts) (λ _. Empty) (λ _. r) (λ _. data_of_mode mode row) d s
@@ -85,20 +69,20 @@ table_ends m (Some why) asked d r s = refl
 table_ends m None asked d r s = answers m (table_plan asked d.crtc_address) (λ table. table) (λ _. r) (λ _. d) d s
 
 load_at_ends : {S : Type 0} (m : BusMeaning S) (row : Option ModeRow) (load : GlyphLoad) (fonts : FontSet) (d : BiosData) (r : Regs) (block : List ℕ) →
-    EndsBy m (no_row BadHeight row) (load_if_height_exists row load fonts d r block) d
+    EndsBy m (unless_row BadHeight row) (load_if_height_exists row load fonts d r block) d
 unfolding load_if_height_exists
 load_at_ends m None load fonts d r block s = refl
 load_at_ends m (Some row) load fonts d r block s = answers m (load_plan fonts load block row) (λ _. Empty) (λ _. r) (λ _. data_of_mode d.mode row) d s
 
 load_ends : {S : Type 0} (m : BusMeaning S) (why : Option Refusal) (load : GlyphLoad) (fonts : FontSet) (d : BiosData) (r : Regs) (block : List ℕ) →
-    EndsBy m (why or no_row BadHeight (mode_row_at_height d.mode load.height)) (load_unless_refused_plan why load fonts d r block) d
+    EndsBy m (why or unless_row BadHeight (mode_row_at_height d.mode load.height)) (load_unless_refused_plan why load fonts d r block) d
 unfolding load_unless_refused_plan
 load_ends m (Some why) load fonts d r block s = refl
 load_ends m None load fonts d r block s = load_at_ends m (mode_row_at_height d.mode load.height) load fonts d r block s
 
 -- each call ends as its reason says
 pub call_ends : {S : Type 0} (m : BusMeaning S) (call : Option Call) (fonts : FontSet) (d : BiosData) (r : Regs) (block : List ℕ) →
-    EndsBy m (refusal_of call d (length block)) (call_plan call fonts d r block) d
+    EndsBy m (call_refusal call d (length block)) (call_plan call fonts d r block) d
 unfolding table_in_mode_plan load_in_mode_plan service_in_mode_plan
 call_ends m None fonts d r block s = refl
 call_ends m (Some (SetMode mode keeps)) fonts d r block s = set_mode_ends m (mode_row mode) mode keeps fonts d r s
@@ -107,16 +91,28 @@ call_ends m (Some (ReadTable asked)) fonts d r block s =
     if_set m (d.mode == 0) why (table_unless_refused_plan why asked d r) d (table_ends m why asked d r) s
 call_ends m (Some (LoadGlyphs load)) fonts d r block s =
     let why = load_refusal load d.mode (length block) in
-    if_set m (d.mode == 0) (why or no_row BadHeight (mode_row_at_height d.mode load.height)) (load_unless_refused_plan why load fonts d r block) d (load_ends m why load fonts d r block) s
+    if_set m (d.mode == 0) (why or unless_row BadHeight (mode_row_at_height d.mode load.height)) (load_unless_refused_plan why load fonts d r block) d (load_ends m why load fonts d r block) s
 call_ends m (Some (InMode asked)) fonts d r block s =
     let there = service_with_page_or_0_if_only_one d asked in
     let why = refusal_in_mode there d (length block) in
     if_set m (d.mode == 0) why (unless_refused_plan why there fonts d r block) d (unless_ends m why there fonts d r block) s
 
+-- so a call answers its refusal, or registers and a table
+pub ends_by_refusal : {S : Type 0} (m : BusMeaning S) → CallsEndByTheirRefusals m
+ends_by_refusal {S} m fonts d r block s =
+    by_refusal (call_refusal (call_of r) d (length block)) (call_ends m (call_of r) fonts d r block s)
+  where
+    after : S × CallOutcome
+    after = run m (service fonts d r block) s
+
+    by_refusal : (why : Option Refusal) → Ends why s d after → refusal_in_answer after.1.0 ≡ why
+    by_refusal (Some why) ends = ap (λ (x : S × CallOutcome). refusal_in_answer x.1.0) ends
+    by_refusal None ends = ap refusal_in_answer ends.1
+
 -- so a refused service leaves the bus and the BIOS data
 pub refused_service : {S : Type 0} (m : BusMeaning S) → RefusedCallsDoNothing m
 refused_service {S} m fonts d r block s e is =
-    by_reason (refusal_of (call_of r) d (length block)) (call_ends m (call_of r) fonts d r block s)
+    by_reason (call_refusal (call_of r) d (length block)) (call_ends m (call_of r) fonts d r block s)
   where
     after : S × CallOutcome
     after = run m (service fonts d r block) s

@@ -26,5 +26,6 @@ pub mod Tables
 pub mod GlyphLoads
 pub mod Calls
 pub mod Refusals
+pub mod CallReasons
 pub mod Service
 pub mod Blocks

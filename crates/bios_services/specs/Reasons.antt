@@ -3,7 +3,7 @@
 -- From the IBM PS/2 and PC BIOS Interface Technical Reference, "Interrupt 10H - Video"; the
 -- refusals are this adapter's choice.
 use Rattle.std.specs.Prelude.{ℕ, Bool, ◌+◌, ◌==◌, ◌&&◌, nat_lt, nat_le, not, if◌then◌else◌, Option}
-use Rattle.std.specs.Prelude.{Some, None, Result, Ok, Err}
+use Rattle.std.specs.Prelude.{Some, None}
 use Rattle.vga_bits.specs.declared.refusal.Refusal.{Refusal}
 use Rattle.vga_bits.specs.declared.refusal.Refusal.TheVariants.{WrongKind, BadPage, Outside}
 use Rattle.vga_bits.specs.declared.refusal.Refusal.TheVariants.{CountPast, BadBlock}
@@ -19,11 +19,6 @@ None or other = other
 -- a reason, unless the test holds
 abbrev pub refuse_unless : Bool → Refusal → Option Refusal
 refuse_unless holds why = if holds then None else Some why
-
--- the reason why something is refused, if it is
-abbrev pub reason_of : Result (Unit {0}) Refusal → Option Refusal
-reason_of (Ok done) = None
-reason_of (Err why) = Some why
 
 -- the mode is text, which has no pixels
 abbrev pub refuse_unless_graphics_mode : ℕ → Option Refusal

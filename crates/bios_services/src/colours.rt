@@ -1,21 +1,21 @@
 //! Function 10, by its subfunctions.
-ghost use Rattle.std.specs.Prelude.{◌≡◌, ◌<◌, None, length};
+ghost use Rattle.std.specs.Prelude.{◌≡◌, ◌<◌, IfErr, None, length};
 ghost use Rattle.bios_services.specs.Bounds.{ports_bound};
 ghost use Rattle.bios_services.specs.Plan.{run};
-ghost use Rattle.bios_services.specs.Reasons.{reason_of};
+ghost use Rattle.bios_services.specs.CallReasons.{refusal_of_outcome, ExplainsColours};
 ghost use Rattle.bios_services.specs.Colours.{refuse_unless_palette_register as no_register_of};
 ghost use Rattle.bios_services.specs.Colours.{refuse_unless_dac_entry as no_entry_of, refuse_unless_dac_entries as no_entries_of};
 ghost use Rattle.bios_services.specs.Colours.{colour_block_len, colour_refusal_besides_block as colour_reason_of};
 ghost use Rattle.bios_services.specs.Colours.{colour_refusal, read_entry_plan};
 ghost use Rattle.bios_services.specs.Colours.{read_attribute_register_into_bh, read_dac_mask_into_bl, colours_plan};
 
+use crate::call_reason::CallReason;
 use crate::cycles::{inp, out};
 use crate::dac::{set_entries, set_entry};
 use crate::palette::{read_register, set_attribute_register, set_blinking, set_palette};
 use crate::reasons::refuse_unless;
 use crate::regs::{Regs, with_high, with_low};
 use crate::video_registers::{DAC_DATA, DAC_MASK, DAC_READ_INDEX, OVERSCAN};
-use vga_bits::Refusal;
 use vga_card::Bus;
 
 /// A subfunction of function 10 that answers registers alone.
@@ -67,26 +67,29 @@ pub enum ColourService {
 }
 
 /// Refuses a number that is none of the palette registers.
-fn refuse_unless_palette_register(register: u8) -> Result<(), Refusal>
-    ensures { reason_of result ≡ no_register_of register }
+fn refuse_unless_palette_register(register: u8) -> Result<(), CallReason>
+    ensures refusal { refusal_of_outcome result ≡ no_register_of register }
+    ensures reason { IfErr result (λ reason. reason ≡ CallReason.NoPaletteRegister register) }
 {
-    refuse_unless(register < 0x10, Refusal::BadRegister)
+    refuse_unless(register < 0x10, CallReason::NoPaletteRegister { register })
 }
 
 /// Refuses a number that is none of the DAC's entries.
-fn refuse_unless_dac_entry(entry: u16) -> Result<(), Refusal>
-    ensures { reason_of result ≡ no_entry_of entry }
+fn refuse_unless_dac_entry(entry: u16) -> Result<(), CallReason>
+    ensures refusal { refusal_of_outcome result ≡ no_entry_of entry }
+    ensures reason { IfErr result (λ reason. reason ≡ CallReason.NoEntry entry) }
 {
-    refuse_unless(entry < 0x100, Refusal::BadRegister)
+    refuse_unless(entry < 0x100, CallReason::NoEntry { entry })
 }
 
 /// Refuses entries that the DAC does not have: the first one, or any of `count` from it on.
-pub(crate) fn refuse_unless_dac_entries(first: u16, count: u16) -> Result<(), Refusal>
-    ensures { reason_of result ≡ no_entries_of first count }
+pub(crate) fn refuse_unless_dac_entries(first: u16, count: u16) -> Result<(), CallReason>
+    ensures refusal { refusal_of_outcome result ≡ no_entries_of first count }
+    ensures reason { IfErr result (λ reason. reason ≡ CallReason.NoEntries count first) }
 {
     refuse_unless(
         first < 0x100 && first as u32 + count as u32 <= 0x100,
-        Refusal::BadRegister,
+        CallReason::NoEntries { count, first },
     )
 }
 
@@ -104,19 +107,18 @@ impl ColourService {
 }
 
 /// Refuses a subfunction, whatever its block, if there is a reason.
-pub(crate) fn colour_refusal_besides_block(service: ColourService) -> Result<(), Refusal>
-    ensures { reason_of result ≡ colour_reason_of service }
+pub(crate) fn colour_refusal_besides_block(service: ColourService) -> Result<(), CallReason>
+    ensures refusal { refusal_of_outcome result ≡ colour_reason_of service }
+    ensures reason { IfErr result (ExplainsColours service) }
 {
     match service {
-        ColourService::SetRegister { register, .. } | ColourService::ReadRegister { register } => {
-            refuse_unless_palette_register(register)
-        }
+        ColourService::SetRegister { register, .. } => refuse_unless_palette_register(register),
+        ColourService::ReadRegister { register } => refuse_unless_palette_register(register),
         ColourService::SetBlinking { blinking } => {
-            refuse_unless(blinking <= 1, Refusal::BadRegister)
+            refuse_unless(blinking <= 1, CallReason::NoBlinking { value: blinking })
         }
-        ColourService::SetEntry { entry, .. } | ColourService::ReadEntry { entry } => {
-            refuse_unless_dac_entry(entry)
-        }
+        ColourService::SetEntry { entry, .. } => refuse_unless_dac_entry(entry),
+        ColourService::ReadEntry { entry } => refuse_unless_dac_entry(entry),
         ColourService::SetEntries { first, count } => refuse_unless_dac_entries(first, count),
         ColourService::SetOverscan { .. }
         | ColourService::SetPalette

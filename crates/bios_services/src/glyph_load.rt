@@ -1,14 +1,16 @@
 //! Function 11: loading glyphs of text, which also sets the height of characters.
-ghost use Rattle.std.specs.Prelude.{◌≡◌, ◌<◌, ◌≤◌, ◌+◌, length};
+ghost use Rattle.std.specs.Prelude.{◌≡◌, ◌<◌, ◌≤◌, ◌+◌, IfErr, length};
 ghost use Rattle.bios_modes.specs.Fonts.{glyph_row};
 ghost use Rattle.bios_services.specs.Bounds.{ports_bound};
 ghost use Rattle.bios_services.specs.Plan.{run};
 ghost use Rattle.bios_services.specs.ModeSet.{write_font_plan, write_glyph_plan, write_glyphs_plan};
-ghost use Rattle.bios_services.specs.Reasons.{reason_of};
+ghost use Rattle.bios_services.specs.CallReasons.{refusal_of_outcome, ExplainsLoadBesidesBlock};
+ghost use Rattle.bios_services.specs.CallReasons.{ExplainsLoadBesidesHeight};
 ghost use Rattle.bios_services.specs.GlyphLoads.{AreGlyphsThere, whole_font, glyph_load_of};
 ghost use Rattle.bios_services.specs.GlyphLoads.{glyphs_block_len, load_refusal_besides_block, load_refusal};
 ghost use Rattle.bios_services.specs.GlyphLoads.{loaded_line, load_plan};
 
+use crate::call_reason::CallReason;
 use crate::cells::GRAPHICS_BASE;
 use crate::cursor::write_crtc_word;
 use crate::cycles::{put, write_graphics, write_indexed, write_sequencer};
@@ -22,7 +24,6 @@ use crate::video_registers::{
     WINDOW_AT_A0000,
 };
 use bios_modes::{Fonts, ModeRow, is_text};
-use vga_bits::Refusal;
 use vga_card::Bus;
 
 /// Which glyphs a call loads, and the height of characters that it sets.
@@ -84,19 +85,24 @@ impl GlyphLoad {
     }
 
     /// Refuses the glyphs in a mode, whatever their block, for the first of the reasons.
-    fn reason(self, mode: u8) -> Result<(), Refusal>
-        ensures { reason_of result ≡ load_refusal_besides_block self mode }
+    fn refusal_besides_block(self, mode: u8) -> Result<(), CallReason>
+        ensures refusal { refusal_of_outcome result ≡ load_refusal_besides_block self mode }
+        ensures reason { IfErr result (ExplainsLoadBesidesBlock self mode) }
     {
-        refuse_unless(is_text(mode), Refusal::WrongKind)?;
-        let end = self.first as u32 + self.count as u32;
-        refuse_unless(end <= 256, Refusal::CountPast)
+        refuse_unless(is_text(mode), CallReason::NoCharacterMap { mode })?;
+        let Self { count, first, .. } = self;
+        refuse_unless(
+            first as u32 + count as u32 <= 256,
+            CallReason::GlyphsPast { count, first },
+        )
     }
 
     /// Refuses the glyphs in a mode, with a block of this length, for the first of the reasons.
-    pub(crate) fn refusal(self, mode: u8, len: usize) -> Result<(), Refusal>
-        ensures { reason_of result ≡ load_refusal self mode len }
+    pub(crate) fn refusal(self, mode: u8, len: usize) -> Result<(), CallReason>
+        ensures refusal { refusal_of_outcome result ≡ load_refusal self mode len }
+        ensures reason { IfErr result (ExplainsLoadBesidesHeight self mode len) }
     {
-        refuse_or_wrong_block(self.reason(mode), self.block(), len)
+        refuse_or_wrong_block(self.refusal_besides_block(mode), self.block(), len)
     }
 
     /// Scan line r of character c.

@@ -29,7 +29,7 @@ use crate::dot_cell::GraphicsCell;
 use crate::glyph_load::GlyphLoad;
 use crate::mode_set;
 use crate::pixels::{Pixel, read_pixel, write_pixel};
-use crate::refusals::{refusal_in_mode, refusal_of_unknown_call};
+use crate::refusals::{reason_of_unknown_call, refusal_in_mode};
 use crate::regs::{Regs, with_low};
 use crate::reply::{Reply, ServiceError, Table};
 use crate::tables::{TableService, read_table, table_refusal};
@@ -248,7 +248,9 @@ fn load_glyphs_in_mode<B: Bus>(
     if bda.mode() == 0 {
         return Err(Refusal::NoMode);
     }
-    load.refusal(bda.mode(), block.len())?;
+    if let Err(reason) = load.refusal(bda.mode(), block.len()) {
+        return Err(reason.refusal());
+    }
     load_allowed_glyphs(bus, bda, fonts, load, regs, block)
 }
 
@@ -271,7 +273,9 @@ fn perform_service_in_mode<B: Bus>(
         return Err(Refusal::NoMode);
     }
     let service = service.service_with_page_or_0_if_only_one(bda);
-    refusal_in_mode(service, bda, block.len())?;
+    if let Err(reason) = refusal_in_mode(service, bda, block.len()) {
+        return Err(reason.refusal());
+    }
     answer_of_registers(perform_allowed_service(bus, bda, fonts, service, regs, block))
 }
 
@@ -293,8 +297,8 @@ fn answer_table_in_mode<B: Bus>(
     if bda.mode() == 0 {
         return Err(ServiceError::Refused(Refusal::NoMode));
     }
-    if let Err(why) = table_refusal(service) {
-        return Err(ServiceError::Refused(why));
+    if let Err(reason) = table_refusal(service) {
+        return Err(ServiceError::Refused(reason.refusal()));
     }
     match read_table(alloc, bus, bda.crtc_address(), service) {
         Ok(table) => Ok(Reply { regs, table }),
@@ -332,7 +336,7 @@ pub fn int10<B: Bus>(
     ensures valid { IsValid bda.new }
 {
     let outcome = match decode(regs) {
-        None => Err(refusal_of_unknown_call(bda)),
+        None => Err(reason_of_unknown_call(bda, regs).refusal()),
         Some(Call::SetMode { mode, keeps }) => set_mode(bus, bda, fonts, mode, keeps, regs),
         Some(Call::ReadTable(service)) => return answer_table_in_mode(
             alloc, bus, bda, service, regs,

@@ -10,6 +10,7 @@ ghost use Rattle.bios_services.specs.declared.regs.Regs.{Regs};
 ghost use Rattle.bios_services.specs.Data.{AreValidData};
 ghost use Rattle.bios_services.specs.Plan.{run};
 ghost use Rattle.bios_services.specs.Service.{service, RefusedCallsDoNothing};
+ghost use Rattle.bios_services.specs.CallReasons.{CallsEndByTheirRefusals};
 ghost use Rattle.bios_services.specs.Blocks.{FittingBlocksAreAccepted, OtherBlockLengthsAreRefused};
 
 use vga_card::Bus;
@@ -17,6 +18,11 @@ use vga_card::Bus;
 /// A refused service leaves the bus, whichever it is, and the BIOS data.
 pub fn refused_services_do_nothing<B: Bus>()
     ensures { RefusedCallsDoNothing B.meaning }
+{}
+
+/// Every call answers its refusal, or, if it has none, registers and a table.
+pub fn calls_end_by_their_refusals<B: Bus>()
+    ensures { CallsEndByTheirRefusals B.meaning }
 {}
 
 /// No call is refused for a block of exactly the length that it reads; and a call that reads some

@@ -4,6 +4,7 @@
 mod band;
 mod block_span;
 mod call;
+mod call_reason;
 mod cell_run;
 mod cells;
 mod character_reading;
@@ -35,8 +36,11 @@ mod strings;
 mod tables;
 mod teletype;
 mod video_registers;
+mod why;
 
 pub use block_span::BlockSpan;
+pub use call_reason::CallReason;
 pub use interrupt::int10;
 pub use regs::Regs;
 pub use reply::{Reply, ServiceError, Table};
+pub use why::why_call;

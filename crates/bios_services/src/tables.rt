@@ -1,8 +1,8 @@
 //! Tables that function 10 answers in the caller's memory: subfunctions 09 and 17.
-ghost use Rattle.std.specs.Prelude.{◌≡◌, ◌<◌, IfOk, OnErr, None, length, true};
+ghost use Rattle.std.specs.Prelude.{◌≡◌, ◌<◌, IfOk, IfErr, OnErr, None, length, true};
 ghost use Rattle.bios_services.specs.Bounds.{ports_bound};
 ghost use Rattle.bios_services.specs.Plan.{run};
-ghost use Rattle.bios_services.specs.Reasons.{reason_of};
+ghost use Rattle.bios_services.specs.CallReasons.{refusal_of_outcome, ExplainsTable};
 ghost use Rattle.bios_services.specs.Tables.{table_refusal as table_refusal_of};
 ghost use Rattle.bios_services.specs.Tables.{attribute_register_of_palette_byte as palette_register_of};
 ghost use Rattle.bios_services.specs.Tables.{read_palette_registers_in_index_state_plan};
@@ -10,13 +10,14 @@ ghost use Rattle.bios_services.specs.Tables.{read_palette_and_overscan_plan};
 ghost use Rattle.bios_services.specs.Tables.{read_components_plan, read_entries_plan, table_plan};
 ghost use Rattle.bios_services.specs.Tables.{table_allocates_memory};
 
+use crate::call_reason::CallReason;
 use crate::colours::refuse_unless_dac_entries;
 use crate::cycles::{inp, out, reset_attribute_flip_flop};
 use crate::palette::read_attribute_register_in_index_state;
 use crate::reply::Table;
 use crate::video_registers::{DAC_DATA, DAC_READ_INDEX, OVERSCAN};
 use std::alloc::{AllocError, Global};
-use vga_bits::{Bytes, Refusal};
+use vga_bits::Bytes;
 use vga_card::Bus;
 
 /// How many bytes the table of palette registers and overscan colour has.
@@ -32,8 +33,9 @@ pub enum TableService {
 }
 
 /// Refuses a subfunction that answers a table, if there is a reason.
-pub(crate) fn table_refusal(service: TableService) -> Result<(), Refusal>
-    ensures { reason_of result ≡ table_refusal_of service }
+pub(crate) fn table_refusal(service: TableService) -> Result<(), CallReason>
+    ensures refusal { refusal_of_outcome result ≡ table_refusal_of service }
+    ensures reason { IfErr result (ExplainsTable service) }
 {
     match service {
         TableService::ReadPalette => Ok(()),

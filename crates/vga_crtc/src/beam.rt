@@ -1,5 +1,5 @@
 //! The beam, and how it moves.
-ghost use Rattle.std.specs.Prelude.{◌≡◌, ◌≤◌, ◌⊎◌};
+ghost use Rattle.std.specs.Prelude.{◌≡◌, ◌≤◌, ◌⊎◌, ◌↔◌, IsTrue};
 ghost use Rattle.vga_crtc.specs.Raster.{IsWithinItsLine, beam_after_dots_of_line};
 
 mod clock;
@@ -47,6 +47,18 @@ impl Beam {
             half: false,
             split: false,
         }
+    }
+
+    /// Whether all that the beam counts is within its bounds, as it is for the beam of every CRT
+    /// controller.
+    pub fn is_in_bounds(&self) -> bool
+        ensures { IsTrue result ↔ IsBeam self.now }
+    {
+        self.frame < 32
+            && self.line <= 1024
+            && self.character <= 259
+            && self.dot < 9
+            && self.scan < 32
     }
 
     /// Whether the beam is at the first dot of a frame.

@@ -69,7 +69,7 @@ pub(crate) fn map_start(map: u8) -> u16
 }
 
 /// The map, 0 to 7, that contains the glyph of a cell's character.
-fn character_map(host: &Host, cell: Cell) -> u8
+pub(crate) fn character_map(host: &Host, cell: Cell) -> u8
     ensures value { result ≡ map_of_cell host.now cell }
     ensures below { result < 8 }
 {
@@ -137,7 +137,7 @@ pub(crate) fn is_cursor_at(crtc: &Crtc, counter: u16) -> bool
 
 /// Whether a dot has its cell's foreground: by cursor, blink and underline, or else by the glyph.
 #[tactic(auto, unfolding(crate::specs::Text::is_foreground))]
-fn is_foreground(display: &Display<'_>, source: SourceDot, cell: Cell) -> bool
+pub(crate) fn is_foreground(display: &Display<'_>, source: SourceDot, cell: Cell) -> bool
     ensures { result ≡ is_foreground_dot display.now.host display.now.crtc display.now.attr source
         cell }
 {

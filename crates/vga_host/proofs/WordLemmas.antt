@@ -7,7 +7,7 @@ use Rattle.std.proofs.lemmas.Bool.Decides.{nat_tests}
 use Rattle.std.proofs.lemmas.List.{set-get_or, get_or-set_other}
 use Rattle.vga_bits.proofs.BitLemmas.{byte_from_bits}
 use Rattle.vga_bits.proofs.FourLemmas.{by_plane}
-use Rattle.vga_bits.specs.Four.{Four, four_by_plane, of_plane}
+use Rattle.vga_bits.specs.Four.{Four, of_plane}
 use Rattle.vga_planes.specs.Planes.{byte_at, bytes_at}
 use Rattle.vga_host.specs.Host.{HostState}
 use Rattle.vga_host.specs.Memory.Address.{is_decoded, window_offset, plane_offset, is_reached}

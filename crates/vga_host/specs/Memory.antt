@@ -4,4 +4,5 @@ pub mod Address
 pub mod PlaneWords
 pub mod Read
 pub mod Runs
+pub mod Stages
 pub mod Write

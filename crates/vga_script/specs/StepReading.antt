@@ -1,5 +1,5 @@
--- How the words after a step's name are read, from the left. No public clause cites this: the
--- proofs show that it reads what the words spell.
+-- How the words after a step's name are read, from the left. Of this, public clauses cite
+-- `number_of_word` alone: of the rest the proofs show that it reads what the words spell.
 use Rattle.std.specs.Prelude.{ℕ, ◌≡◌, ◌+◌, ◌*◌, ◌&&◌, nat_lt, nat_le, if◌then◌else◌, List, [], ◌∷◌}
 use Rattle.std.specs.Prelude.{length, take, drop, Option, Some, None, Result, Ok, Err, codes}
 use Rattle.std.specs.Char.{digit_value, is_digit}

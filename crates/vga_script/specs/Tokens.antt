@@ -1,6 +1,6 @@
 -- Lines, words and numbers of a text.
-use Rattle.std.specs.Prelude.{ℕ, ◌≡◌, ◌<◌, ◌≤◌, ◌+◌, ◌==◌, ◌||◌, Bool, true, false, List, [], ◌∷◌}
-use Rattle.std.specs.Prelude.{length, filter, map, Option, Some, None}
+use Rattle.std.specs.Prelude.{ℕ, ◌≡◌, ◌<◌, ◌≤◌, ◌+◌, ◌-◌, ◌==◌, ◌||◌, Bool, true, false, List, [], ◌∷◌}
+use Rattle.std.specs.Prelude.{length, drop, filter, map, Option, Some, None}
 use Rattle.std.specs.Char.{to_ascii_lowercase}
 use Rattle.std.specs.List.{slice_split, before_first}
 use Rattle.std.specs.Str.Parse.{AllDigits, digits_value}
@@ -63,3 +63,7 @@ abbrev pub is_end_of_piece : PieceEnd → ℕ → Bool
 is_end_of_piece end.Newline = is_newline
 is_end_of_piece end.Semicolon = is_semicolon
 is_end_of_piece end.Blank = is_blank
+
+-- these bytes are the end of a line
+abbrev pub IsEndOf : List ℕ → List ℕ → Type 0
+IsEndOf line bytes = (length bytes ≤ length line) × (bytes ≡ drop (length line - length bytes) line)

@@ -138,7 +138,7 @@ fn append_group<'a>(
 /// Finds the version of the script that a text may spell, the lines of its items, and the number of
 /// the first of those lines.
 #[tactic(auto, using(crate::proofs::AssembleLemmas::blank_none, crate::proofs::AssembleLemmas::two_found))]
-fn version_and_first_line_of_items(text: &[u8]) -> (Version, Option<&[u8]>, usize)
+pub fn version_and_first_line_of_items(text: &[u8]) -> (Version, Option<&[u8]>, usize)
     requires { length text.now ≤ script_limit }
     ensures from { ItemsBeginAtLine result.0 (lines text.now) result.2
         (lines_of_rest (option_copied result.1)) }

@@ -19,7 +19,7 @@ impl<'a> Model for Block<'a> {
 
 impl<'a> Block<'a> {
     /// A block of these bytes.
-    pub(crate) fn of_slice(bytes: &'a [u8]) -> Block<'a>
+    pub fn of_slice(bytes: &'a [u8]) -> Block<'a>
         ensures { result ≡ bytes.now }
     {
         Block { bytes }

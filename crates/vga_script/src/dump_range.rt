@@ -6,10 +6,10 @@ ghost use Rattle.vga_script.specs.DumpRange.{IsShownInRange};
 const PLANES: u8 = 4;
 
 /// How many bytes a plane has.
-const PLANE_LEN: u32 = 0x1_0000;
+pub const PLANE_LEN: u32 = 0x1_0000;
 
 /// How many bytes of a plane one step shows at most.
-pub(crate) const MOST_SHOWN: u16 = 256;
+pub const MOST_SHOWN: u16 = 256;
 
 /// What a step shows of the adapter.
 #[derive(Clone, Copy, PartialEq, Eq, Debug)]

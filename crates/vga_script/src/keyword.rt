@@ -6,7 +6,7 @@ ghost use Rattle.vga_script.specs.Tokens.{in_lower_case};
 
 /// The step that a line names, by its first word.
 #[derive(Clone, Copy, PartialEq, Eq, Debug)]
-pub(crate) enum Keyword {
+pub enum Keyword {
     /// `out`.
     Out,
     /// `outw`.
@@ -35,7 +35,7 @@ pub(crate) enum Keyword {
 
 /// Whether a word is this name, in either case. The name is in lower case.
 #[tactic(auto, using(crate::proofs::NameLemmas::same_name))]
-pub(crate) fn is_name(word: &[u8], name: &[u8]) -> bool
+pub fn is_name(word: &[u8], name: &[u8]) -> bool
     requires { in_lower_case name.now ≡ name.now }
     ensures { result ≡ bytes_eq (in_lower_case word.now) name.now }
 {
@@ -45,7 +45,7 @@ pub(crate) fn is_name(word: &[u8], name: &[u8]) -> bool
 impl Keyword {
     /// The keyword that a word is, if it is one.
     #[tactic(auto, using(crate::proofs::NameLemmas::named, crate::proofs::NameLemmas::unnamed))]
-    pub(crate) fn of_word(word: &[u8]) -> Option<Keyword>
+    pub fn of_word(word: &[u8]) -> Option<Keyword>
         ensures found { IfSome result (λ keyword. in_lower_case word.now ≡ keyword_name keyword) }
         ensures none { IfNone result ((keyword : Keyword) → in_lower_case word.now ≢ keyword_name
             keyword) }

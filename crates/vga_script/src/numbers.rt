@@ -4,7 +4,7 @@ ghost use Rattle.vga_script.specs.StepReading.{number_of_word};
 
 /// Reads the number that a word spells in a radix from 2 to 16, if it spells one of at most `most`.
 #[tactic(auto, unfolding(crate::specs::StepReading::number_of_word))]
-pub(crate) fn number_of_word(word: &[u8], radix: u32, most: u32) -> Option<u32>
+pub fn number_of_word(word: &[u8], radix: u32, most: u32) -> Option<u32>
     requires low { 2 ≤ radix }
     requires high { radix ≤ 16 }
     ensures value { result ≡ number_of_word radix most word.now }

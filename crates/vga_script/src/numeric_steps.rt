@@ -2,6 +2,7 @@
 
 /// The table of numeric steps. A row gives a step's opcode and its fields in order: `one`, `two` or
 /// `four` bytes, which text spells in hexadecimal, or `dots`, which it spells in decimal.
+#[macro_export]
 macro_rules! numeric_steps {
     ($then:ident, $first:ident, $second:ident) => {
         $then! {

@@ -56,7 +56,7 @@ pub(crate) fn has_word(line: &[u8]) -> bool
 
 /// Whether a line is `version 2`.
 #[tactic(auto, using(crate::proofs::NameLemmas::named, crate::proofs::NameLemmas::unnamed))]
-pub(crate) fn says_version_two(line: &[u8]) -> bool
+pub fn says_version_two(line: &[u8]) -> bool
     ensures { IsTrue result ↔ IsVersionTwo (words line.now) }
 {
     match two_words(line) {
@@ -88,7 +88,7 @@ fn repeat_count_of_line(line: &[u8]) -> Option<u16>
 
 /// The count of the repeat that a line begins in a script of this version. Version 1 has no
 /// repeats.
-pub(crate) fn repeat_count_in_version(line: &[u8], version: Version) -> Option<u16>
+pub fn repeat_count_in_version(line: &[u8], version: Version) -> Option<u16>
     ensures found { IfSome result (λ count. AllowsRepeats version
         × SpellsBeginningOfRepeat (words line.now) count) }
     ensures none { IfNone result (AllowsRepeats version → (count : ℕ) →
@@ -102,7 +102,7 @@ pub(crate) fn repeat_count_in_version(line: &[u8], version: Version) -> Option<u
 
 /// Whether a line ends a repeat.
 #[tactic(auto, using(crate::proofs::NameLemmas::named, crate::proofs::NameLemmas::unnamed))]
-pub(crate) fn is_repeat_end_line(line: &[u8]) -> bool
+pub fn is_repeat_end_line(line: &[u8]) -> bool
     ensures { IsTrue result ↔ IsRepeatEndLine (words line.now) }
 {
     match one_word(line) {

@@ -19,7 +19,7 @@ use vga_bits::Fault;
 pub const SCRIPT_LIMIT: usize = 16_777_216;
 
 /// How many steps a script may mean.
-pub(crate) const STEP_LIMIT: usize = 16_777_216;
+pub const STEP_LIMIT: usize = 16_777_216;
 
 /// A script of at most 16,777,216 bytes that means at most 16,777,216 steps. It keeps the bytes
 /// that spell it. Contracts see its version and its items.

@@ -281,7 +281,7 @@ fn append_shown(out: &mut Vec<u8>, shown: Shown) -> Result<(), Fault>
 }
 
 /// Appends the bytes of a step. Its only error is `OutOfMemory`.
-pub(crate) fn append_step(out: &mut Vec<u8>, step: &Step<'_>) -> Result<(), Fault>
+pub fn append_step(out: &mut Vec<u8>, step: &Step<'_>) -> Result<(), Fault>
     requires { IsInRange step.now }
     ensures ok { OnOk result (out.new.items ≡ out.old.items ++ spelling step.now) }
     ensures err { IsOkUnless result Fault.OutOfMemory }

@@ -22,12 +22,12 @@ use super::tokens::{before_comment, next_word};
 use hex::FromHexError;
 use std::alloc::Global;
 
-/// How many digits the longest block has.
-const MOST_DIGITS: usize = 131_070;
+/// How many digits the longest block of a call has.
+pub const MOST_BLOCK_DIGITS: usize = 131_070;
 
 /// Why words were not read.
 #[derive(Clone, Copy, PartialEq, Eq, Debug)]
-pub(crate) enum Unread {
+pub enum Unread {
     /// They spell nothing that may stand there.
     Bad,
     /// An allocation failed.
@@ -149,7 +149,7 @@ fn next_register<'a>(fields: &'a [u8], name: &[u8]) -> Result<(u16, &'a [u8]), U
 fn block_bytes_of_word(alloc: Global, word: &[u8]) -> Result<Vec<u8>, Unread>
     ensures { GivesWhatIsRead (λ bytes. bytes.items) result (block_bytes_of_word word.now) }
 {
-    if word.is_empty() || word.len() > MOST_DIGITS {
+    if word.is_empty() || word.len() > MOST_BLOCK_DIGITS {
         return Err(Unread::Bad);
     }
     match hex::decode(alloc, word) {
@@ -373,7 +373,7 @@ fn step_of_keyword<'a>(
 
 /// Reads the step that a line spells, if the line has a word. A block is kept in `kept`.
 #[tactic(auto, using(crate::proofs::LineLemmas::line_none, crate::proofs::LineLemmas::line_named, crate::proofs::LineLemmas::line_bad, crate::proofs::LineLemmas::line_unnamed))]
-pub(crate) fn step_of_line<'a>(
+pub fn step_of_line<'a>(
     alloc: Global,
     kept: &'a mut Vec<u8>,
     line: &[u8],

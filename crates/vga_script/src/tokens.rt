@@ -1,9 +1,9 @@
 //! Splitting a text into lines, and a line into words.
-ghost use Rattle.std.specs.Prelude.{◌≡◌, ◌∷◌, [], ◌<◌, ◌≤◌, length, IfNone, IfSome};
+ghost use Rattle.std.specs.Prelude.{◌≡◌, ◌∷◌, ◌++◌, [], ◌<◌, ◌≤◌, length, IfNone, IfSome};
 ghost use Rattle.std.specs.List.{before_first, position_or_len};
 ghost use Rattle.std.specs.Option.{option_copied};
 ghost use Rattle.vga_script.specs.Tokens.{is_blank, is_semicolon, is_end_of_piece, lines};
-ghost use Rattle.vga_script.specs.Tokens.{lines_of_rest};
+ghost use Rattle.vga_script.specs.Tokens.{lines_of_rest, IsEndOf};
 ghost use Rattle.vga_script.specs.Tokens.{words_between_blanks};
 
 /// A byte that ends a piece of a text.
@@ -45,7 +45,7 @@ impl PieceEnd {
 
 /// The first line of a text, and what follows its newline if it has one.
 #[tactic(auto, using(crate::proofs::WordLemmas::line_between, crate::proofs::WordLemmas::line_last))]
-pub(crate) fn first_line(text: &[u8]) -> (&[u8], Option<&[u8]>)
+pub fn first_line(text: &[u8]) -> (&[u8], Option<&[u8]>)
     ensures line { lines text.now ≡ result.0.now ∷ lines_of_rest (option_copied result.1) }
     ensures shorter { IfSome result.1 (λ rest. length rest.now < length text.now) }
 {
@@ -57,7 +57,7 @@ pub(crate) fn first_line(text: &[u8]) -> (&[u8], Option<&[u8]>)
 }
 
 /// The part of a line before its comment.
-pub(crate) fn before_comment(line: &[u8]) -> &[u8]
+pub fn before_comment(line: &[u8]) -> &[u8]
     ensures { result.now ≡ before_first is_semicolon line.now }
 {
     line.split_at(PieceEnd::Semicolon.position_in(line)).0
@@ -68,6 +68,7 @@ pub(crate) fn before_comment(line: &[u8]) -> &[u8]
 fn after_blanks(line: &[u8]) -> &[u8]
     ensures words { words_between_blanks result.now ≡ words_between_blanks line.now }
     ensures prefix { 0 < length result.now → 0 < position_or_len is_blank result.now }
+    ensures end { IsEndOf line.now result.now }
 {
     let mut rest = line;
     while let [first, others @ ..] = rest {
@@ -79,11 +80,14 @@ fn after_blanks(line: &[u8]) -> &[u8]
     rest
 }
 
-/// The first word of a line and what follows it, if the line has a word.
-pub(crate) fn next_word(line: &[u8]) -> Option<(&[u8], &[u8])>
+/// The first word of a line, of at least one byte, and what follows it, if the line has a word.
+/// Together they are the end of the line.
+pub fn next_word(line: &[u8]) -> Option<(&[u8], &[u8])>
     ensures found { IfSome result (λ x. words_between_blanks line.now ≡ x.0.now
         ∷ words_between_blanks x.1.now) }
     ensures none { IfNone result (words_between_blanks line.now ≡ []) }
+    ensures end { IfSome result (λ x. IsEndOf line.now (x.0.now ++ x.1.now)) }
+    ensures some { IfSome result (λ x. 0 < length x.0.now) }
 {
     let rest = after_blanks(line);
     if rest.is_empty() {

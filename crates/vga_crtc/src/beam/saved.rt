@@ -47,22 +47,11 @@ impl Beam {
         }
     }
 
-    /// Whether what the beam counts is within its bounds.
-    fn is_beam_in_bounds(self) -> bool
-        ensures { IsTrue result ↔ IsBeam self }
-    {
-        self.frame < 32
-            && self.line <= 1024
-            && self.character <= 259
-            && self.dot < 9
-            && self.scan < 32
-    }
-
     /// Whether eleven bytes are those of a beam: it is within its bounds, and its flags are 0 or 1.
     pub(crate) fn is_saved(bytes: &[u8]) -> bool
         requires { length bytes.now ≡ 11 }
         ensures { IsTrue result ↔ IsSavedBeam bytes.now }
     {
-        bytes[9] <= 1 && bytes[10] <= 1 && Beam::from_saved(bytes).is_beam_in_bounds()
+        bytes[9] <= 1 && bytes[10] <= 1 && Beam::from_saved(bytes).is_in_bounds()
     }
 }

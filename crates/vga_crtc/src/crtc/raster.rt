@@ -125,11 +125,7 @@ impl Crtc {
         requires at_most { n ≤ 2340 }
         ensures { result ≡ after_dots self.now cw n }
     {
-        let mut crtc = Crtc {
-            registers: self.registers.copied(),
-            index: self.index,
-            beam: self.beam,
-        };
+        let mut crtc = self.with_beam(self.beam);
         crtc.step_dots(cw, n);
         crtc
     }

@@ -4,7 +4,7 @@ ghost use Rattle.std.specs.Prelude.{◌≡◌, ℕ};
 ghost use Rattle.std.specs.Int.{bit_at};
 ghost use Rattle.vga_bits.specs.Bits.{is_set as is_set_of};
 ghost use Rattle.vga_host.specs.Ports.{is_refused_graphics_write};
-ghost use Rattle.vga_host.specs.Graphics.{set_reset, is_set_reset_enabled, colour_compare, rotate_count, function_select, read_map_select, read_map_pair, write_mode, is_read_compare, is_odd_even_read, is_shift_256, is_graphics, is_256_colours, is_compared, bit_mask};
+ghost use Rattle.vga_host.specs.Graphics.{set_reset, is_set_reset_enabled, colour_compare, rotate_count, function_select, read_map_select, read_map_pair, write_mode, is_read_compare, is_odd_even_read, is_shift_256, is_graphics, is_256_colours, is_compared, bit_mask, memory_map};
 
 use super::Host;
 use vga_bits::is_set;
@@ -122,6 +122,13 @@ impl Host {
         ensures { result ≡ is_shift_256 self.now }
     {
         self.gfx.bit(GRAPHICS_MODE, 6)
+    }
+
+    /// The memory map, 0 to 3, which chooses the window of the display memory.
+    pub fn memory_map(&self) -> u8
+        ensures { result ≡ memory_map self.now }
+    {
+        self.gfx.field(MISCELLANEOUS, 3, 2)
     }
 
     /// Whether dots come from the planes, and not from glyphs of characters.

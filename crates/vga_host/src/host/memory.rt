@@ -9,8 +9,10 @@ mod address;
 mod fills;
 mod read;
 mod runs;
+mod stages;
 mod transfers;
 mod word_moves;
 mod write;
 
 pub(crate) use self::access::MemoryAccess;
+pub use self::stages::{ReadStages, WriteStages};

@@ -2,7 +2,7 @@
 ghost use Rattle.std.specs.Prelude.{◌≡◌, ◌<◌, ◌≤◌, ◌+◌, ◌^◌, false, IfSome};
 ghost use Rattle.vga_host.specs.Graphics.{is_graphics};
 ghost use Rattle.vga_host.specs.Memory.Address.{is_memory_enabled as is_memory_enabled_of};
-ghost use Rattle.vga_host.specs.Memory.Address.{is_decoded, decoded_among, window_offset};
+ghost use Rattle.vga_host.specs.Memory.Address.{is_decoded, decoded_among, window_offset, window_start, window_len};
 ghost use Rattle.vga_host.specs.Memory.Address.{plane_offset, is_reached};
 
 use crate::host::Host;
@@ -19,6 +19,16 @@ pub(super) fn is_memory_enabled(misc: u8) -> bool
 }
 
 impl Host {
+    /// The first and the last address of the window, by the memory map. The display memory answers
+    /// there if miscellaneous output lets it answer at all.
+    pub fn window(&self) -> (u32, u32)
+        ensures first { result.0 ≡ window_start self.now }
+        ensures last { result.1 + 1 ≡ window_start self.now + window_len self.now }
+    {
+        let access = self.access();
+        (access.start, access.start + access.len - 1)
+    }
+
     /// Whether the display memory decodes an address. `misc` is the miscellaneous output register.
     pub fn decodes(&self, address: u32, misc: u8) -> bool
         ensures { result ≡ is_decoded self.now misc address }

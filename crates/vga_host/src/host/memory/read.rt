@@ -17,7 +17,7 @@ use vga_planes::plane_words::mask_of_planes;
 
 impl Host {
     /// The plane that read mode 0 picks for an offset in the window.
-    fn picked_plane(&self, in_window: u16) -> usize
+    pub(super) fn picked_plane(&self, in_window: u16) -> usize
         ensures plane { result ≡ picked_plane self.now in_window }
         ensures below { result < 4 }
     {

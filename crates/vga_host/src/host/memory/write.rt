@@ -18,7 +18,7 @@ use vga_planes::plane_words::{byte_in_all_planes, mask_of_planes, merged_by_mask
 
 impl Host {
     /// The rotated byte of a write.
-    fn rotated(&self, v: u8) -> u8
+    pub(super) fn rotated(&self, v: u8) -> u8
         ensures { (i : ℕ) → i < 8 → bit_at result i ≡ rotated_write_bit self.now v i }
     {
         rotated_right(v, self.rotate_count())
@@ -37,7 +37,7 @@ impl Host {
     }
 
     /// The data of the four planes in the write modes 0, 2 and 3, before the function and the mask.
-    fn data(&self, v: u8) -> u32
+    pub(super) fn data(&self, v: u8) -> u32
         ensures { (p i : ℕ) → p < 4 → i < 8 → plane_bit_in_word result p i ≡ data_bit_of_write
             self.now v p i }
     {
@@ -50,7 +50,7 @@ impl Host {
 
     /// The mask of a write in the write modes 0, 2 and 3. Each plane has the same mask.
     #[tactic(auto, using(std::proofs::lemmas::Nat::Bits::bit_at_and))]
-    fn effective_bit_mask(&self, v: u8) -> u8
+    pub(super) fn effective_bit_mask(&self, v: u8) -> u8
         ensures { (i : ℕ) → i < 8 → bit_at result i ≡ mask_bit self.now v i }
     {
         if self.write_mode() == 3 {
@@ -70,7 +70,7 @@ impl Host {
 
     /// The data of the four planes, combined with their latches by the function.
     #[tactic(auto, unfolding(crate::specs::Memory::Write::combined_bit))]
-    fn combined(&self, v: u8) -> u32
+    pub(super) fn combined(&self, v: u8) -> u32
         ensures { (p i : ℕ) → p < 4 → i < 8 → plane_bit_in_word result p i ≡ combined_bit self.now v
             p i }
     {

@@ -1,0 +1,9 @@
+pub mod CycleReasons
+pub mod Data
+pub mod Ports
+pub mod Accesses
+pub mod Dots
+pub mod Words
+pub mod Reasons
+pub mod Refused
+pub mod Laws

@@ -1,0 +1,3 @@
+pub mod FontLemmas
+pub mod LikenessLemmas
+pub mod ReportLemmas

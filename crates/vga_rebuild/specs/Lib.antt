@@ -1,0 +1,3 @@
+pub mod Rebuilt
+pub mod Attempt
+pub mod Likeness
