@@ -46,8 +46,8 @@ pub use repeat_lines::{is_repeat_end_line, repeat_count_in_version, says_version
 pub use script::{SCRIPT_LIMIT, STEP_LIMIT, Script, decode, encode};
 pub use script_bytes::ScriptBytes;
 pub use step::Step;
-pub use step_reading::{MOST_BLOCK_DIGITS, Unread, step_of_line};
 pub use step_bytes::append_step;
+pub use step_reading::{MOST_BLOCK_DIGITS, Unread, step_of_line};
 pub use steps::Steps;
 pub use tokens::{before_comment, first_line, next_word};
 pub use version::Version;
