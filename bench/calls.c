@@ -43,6 +43,12 @@ static uint8_t listed[1 << 22];
 static zak_registers registers;
 static zak_beam beam;
 static zak_timing timing;
+static zak_reason reason;
+static zak_dot_source source;
+static zak_write_stages write_stages;
+static zak_read_stages read_stages;
+static zak_mistake mistake;
+static bool are_dots_other;
 
 static zak_status call_int10(uint16_t ax, uint16_t bx)
 {
@@ -394,6 +400,54 @@ static zak_status do_print(uint32_t i)
     return zak_print(script, script_len, printed, sizeof printed, &len, &place);
 }
 
+/* A read of memory that no window has, as the only step of a script. */
+static void make_refused(void)
+{
+    static const uint8_t refused[] = {'V', 'G', 'A', 'S', 1, 7, 0, 0, 0x0C, 0};
+    memcpy(script, refused, sizeof refused);
+    script_len = sizeof refused;
+}
+
+static zak_status do_explain_step(uint32_t i)
+{
+    return zak_explain_step(&card, script, script_len, i & 0, &reason, text, sizeof text, &len,
+                            &place);
+}
+
+static zak_status do_explain_dot(uint32_t i)
+{
+    return i == 0 ? zak_read_beam(&card, &beam) : zak_explain_dot(&card, &beam, &source);
+}
+
+static zak_status do_explain_put(uint32_t i)
+{
+    return zak_explain_put(&card, 0xA0000 + (i & 0), 0x41, &write_stages);
+}
+
+static zak_status do_explain_get(uint32_t i)
+{
+    return zak_explain_get(&card, 0xA0000 + (i & 0), &read_stages);
+}
+
+/* A text whose last line is bad. */
+static void make_bad_line(void)
+{
+    make_script(LINES);
+    text_of_puts[LINE_BYTES * LINES - 2] = 'x';
+}
+
+static zak_status do_explain_text(uint32_t i)
+{
+    (void)i;
+    return zak_explain_text(text_of_puts, sizeof text_of_puts, &mistake, text, sizeof text, &len);
+}
+
+static zak_status do_rebuild(uint32_t i)
+{
+    (void)i;
+    return zak_rebuild(&card, report, sizeof report, &len, &are_dots_other);
+}
+
 /* A call, and what is made ready for it, if anything. */
 static const struct call {
     const char *name;
@@ -458,6 +512,12 @@ static const struct call {
     {"puts", do_puts, NULL},
     {"assemble", do_assemble, make_lines},
     {"print", do_print, make_lines},
+    {"explain_step", do_explain_step, make_refused},
+    {"explain_dot", do_explain_dot, NULL},
+    {"explain_put", do_explain_put, NULL},
+    {"explain_get", do_explain_get, NULL},
+    {"explain_text", do_explain_text, make_bad_line},
+    {"rebuild", do_rebuild, NULL},
 };
 
 static zak_status repeat(const struct call *call, uint32_t times)

@@ -121,6 +121,14 @@ CALLS = (
     # A text of a million bytes, and the script that it spells.
     Call("assemble", "13", 5, 100),
     Call("print", "13", 5, 100),
+    # What the card explains: a read that is refused, the dot at the beam, a cycle's stages, the
+    # last line of a text of a million bytes, and the steps to the state.
+    Call("explain_step", "13", 1000, 100_000),
+    *(Call("explain_dot", mode, 1000, 1_000_000) for mode in ("3", "12", "13")),
+    Call("explain_put", "12", 1000, 1_000_000),
+    Call("explain_get", "12", 1000, 1_000_000),
+    Call("explain_text", "13", 5, 100),
+    *(Call("rebuild", mode, 3, 30) for mode in ("3", "12", "13")),
 )
 
 

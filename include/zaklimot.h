@@ -74,6 +74,7 @@ enum {
     ZAK_STATE_PART = 33,     /* a part of the state is out of its bounds */
     ZAK_STATE_CHECKSUM = 34, /* of zak_restore_fixed: the checksum is wrong */
     ZAK_MANY_COLOURS = 35,   /* of zak_frame_indexed: the picture has more than 256 colours */
+    ZAK_NOT_REBUILT = 36,    /* of zak_rebuild: the steps that it tried lead to another state */
     ZAK_BAD_MAGIC = 102,
     ZAK_BAD_VERSION = 103,
     ZAK_BAD_STEP = 104,
@@ -92,6 +93,8 @@ enum {
 #define ZAK_MOST_TABLE 768u                            /* bytes of a table of zak_int10 */
 #define ZAK_MOST_TEXT 32768u                           /* bytes of a zak_show_.. */
 #define ZAK_MOST_STATUS_TEXT 128u                      /* bytes of zak_status_text */
+#define ZAK_MOST_REASON_TEXT 160u                      /* bytes of a sentence of zak_explain_step */
+#define ZAK_MOST_MISTAKE_TEXT 256u                     /* bytes of a sentence of zak_explain_text */
 #define ZAK_OPAQUE 1u                                  /* zak_frame_words: words FFRRGGBB */
 #define ZAK_ONCE 2u                                    /* zak_frame_words: each pixel once */
 #define ZAK_FIRST_STATE 265086u                        /* bytes of a state at a frame's first dot */
@@ -117,9 +120,10 @@ zak_status zak_status_text(zak_status status, uint8_t *text, size_t text_cap, si
 
 /* Opens a machine in its power-on state, with the glyphs of a font file, such as
  * fonts/zaklimot.fnt. It allocates 7.4 MB with malloc, which zak_close frees. Few other calls
- * allocate memory: zak_show_.., zak_screen_.., zak_frame_indexed, zak_run, zak_run_on, zak_assemble,
- * zak_print, zak_cycles, and zak_int10 with AX = 1017 (hexadecimal). They free it before they return. Answers
- * ZAK_OPEN_ALREADY, ZAK_FONT_SIZE, ZAK_OUT_OF_MEMORY. */
+ * allocate memory: zak_show_.., zak_screen_.., zak_frame_indexed, zak_run, zak_run_on,
+ * zak_assemble, zak_print, zak_cycles, zak_explain_text, zak_rebuild, and zak_int10 with AX = 1017
+ * (hexadecimal). They free it before they return. Answers ZAK_OPEN_ALREADY, ZAK_FONT_SIZE,
+ * ZAK_OUT_OF_MEMORY. */
 zak_status zak_open(zak_card *card, const uint8_t *fonts, size_t fonts_len);
 zak_status zak_close(zak_card *card);
 
@@ -395,6 +399,150 @@ zak_status zak_restore(zak_card *card, const uint8_t *bytes, size_t bytes_len);
 zak_status zak_save_fixed(zak_card *card, uint8_t *bytes, size_t bytes_len);
 zak_status zak_restore_fixed(zak_card *card, const uint8_t *bytes, size_t bytes_len);
 
+/* The card explains itself: why it refuses a step, where a dot comes from, and what becomes of a
+ * byte on its way to the planes or from them. These calls change nothing.
+ *
+ * zak_explain_step asks of one step of a script: the script's first step if `step` is 0. If the
+ * card would do the step as it is, *reason is all 0. Otherwise reason->status is what the step
+ * would answer, reason->kind says why, and text is a sentence, such as "There is no mode 04. ..".
+ * You may ask after the refusal as well, since a refused step changes nothing. ZAK_NO_ROOM:
+ * *reason is written, *text_len is the number of bytes needed, and text is unchanged.
+ * ZAK_MOST_REASON_TEXT bytes are always enough. ZAK_BAD_ARGUMENT: the script has no such step.
+ * The faults of zak_run_on, with *place, and ZAK_BAD_CARD. */
+typedef struct zak_reason {
+    uint32_t status;     /* what the step would answer, 1 to 13; 0 if it would be done */
+    uint32_t kind;       /* ZAK_WHY_.., or 0 */
+    uint32_t numbers[5]; /* those that the kind lists, in its order, and 0 behind them */
+    bool is_high;        /* it is the high byte of a word that is refused */
+} zak_reason;
+
+enum {
+    ZAK_WHY_NO_PORT = 1,              /* port */
+    ZAK_WHY_OTHER_CRT_CONTROLLER = 2, /* port; the base now, 3B4 or 3D4; what the port is there */
+    ZAK_WHY_READ_ONLY = 3,            /* port */
+    ZAK_WHY_PORT_LEFT_OUT = 4,        /* port; ZAK_PART_.. */
+    ZAK_WHY_NO_REGISTER = 5,          /* ZAK_GROUP_..; index; the last register */
+    ZAK_WHY_BIT_LEFT_OUT = 6,         /* ZAK_GROUP_..; index; bit; value */
+    ZAK_WHY_FIELD_LEFT_OUT = 7,       /* ZAK_GROUP_..; index; highest bit; lowest; value it needs */
+    ZAK_WHY_MEMORY_OFF = 8,           /* address */
+    ZAK_WHY_OUTSIDE_WINDOW = 9,       /* address; memory map; first and last address it decodes */
+    ZAK_WHY_LAST_PORT = 10,           /* a word at port FFFF has no second byte */
+    ZAK_WHY_LAST_ADDRESS = 11,        /* nor has one at address FFFFFFFF */
+    ZAK_WHY_NO_MODE_SET = 12,         /* function */
+    ZAK_WHY_NO_SERVICE = 13,          /* function; AL; BL */
+    ZAK_WHY_NO_SUCH_MODE = 14,        /* mode */
+    ZAK_WHY_NO_PIXELS = 15,           /* mode, which is text */
+    ZAK_WHY_NO_CHARACTER_MAP = 16,    /* mode, which is graphics */
+    ZAK_WHY_NO_PAGE = 17,             /* page; how many pages */
+    ZAK_WHY_CURSOR_OUTSIDE = 18,      /* page; cell at its cursor; cells of a page */
+    ZAK_WHY_POSITION_OUTSIDE = 19,    /* row; column; rows; columns */
+    ZAK_WHY_PIXEL_OUTSIDE = 20,       /* x; y; width; height */
+    ZAK_WHY_CELLS_PAST = 21,          /* count; first cell; cells of a page */
+    ZAK_WHY_GLYPHS_PAST = 22,         /* count; first character */
+    ZAK_WHY_NO_PALETTE_REGISTER = 23, /* register */
+    ZAK_WHY_NO_BLINKING = 24,         /* value, neither 0 nor 1 */
+    ZAK_WHY_NO_ENTRY = 25,            /* entry of the DAC */
+    ZAK_WHY_NO_ENTRIES = 26,          /* count; first entry */
+    ZAK_WHY_WRONG_BLOCK = 27,         /* bytes of the block; bytes that the service takes */
+    ZAK_WHY_NO_HEIGHT = 28,           /* scan lines of a glyph; mode */
+    ZAK_WHY_TOO_MANY_DOTS = 29,       /* dots; ZAK_MOST_DOTS */
+    ZAK_WHY_NO_CELLS_YET = 30,        /* no mode is set, so there are no cells to show */
+    ZAK_WHY_NO_CELLS = 31             /* mode, which is graphics */
+};
+
+enum { /* a group of registers with an index */
+    ZAK_GROUP_SEQUENCER = 0,
+    ZAK_GROUP_GRAPHICS_CONTROLLER = 1,
+    ZAK_GROUP_CRT_CONTROLLER = 2,
+    ZAK_GROUP_ATTRIBUTE_CONTROLLER = 3
+};
+
+enum { /* a part of the VGA that the adapter leaves out */
+    ZAK_PART_INPUT_STATUS_0 = 0,
+    ZAK_PART_SUBSYSTEM_ENABLE = 1,
+    ZAK_PART_DAC_STATE = 2,
+    ZAK_PART_FEATURE_CONTROL = 3
+};
+
+zak_status zak_explain_step(zak_card *card, const uint8_t *script, size_t script_len, uint32_t step,
+                            zak_reason *reason, uint8_t *text, size_t text_cap, size_t *text_len,
+                            size_t *place);
+
+/* Says where the colour of the dot at a beam comes from, by the registers and the memory as they
+ * are now. zak_read_beam gives the card's own beam, which is at the next dot. Another beam asks of
+ * a dot that was drawn before or is still to come; the answer is true of the picture if nothing
+ * that decides the dot has changed in between. `rows` of the beam does not matter. The parts for
+ * text are 0 in graphics, and those of the palette are 0 in 256 colours. What the memory makes of
+ * the dot is told even if something else decides its colour: if is_screen_off is 1, the dot is
+ * black; otherwise, if is_palette_shown is 0, number is the overscan colour. In text is_cursor
+ * decides first, then is_blinked_away, is_underlined and is_glyph_dot. ZAK_BAD_ARGUMENT: a number
+ * of the beam is out of its bounds. */
+typedef struct zak_dot_source {
+    uint16_t counter;                     /* counter of the character that the dot comes from */
+    uint16_t address;                     /* where it is fetched in each plane */
+    uint16_t glyph_address;               /* text: where the row of the glyph is in plane 2 */
+    uint8_t is_display;                   /* 1 for a display dot, as the picture shows */
+    uint8_t panning;                      /* dots by which the picture is panned left, 0 to 8 */
+    uint8_t dot;                          /* the dot of the character, 0 to 8, after panning */
+    uint8_t bytes[4];                     /* bytes of planes 0 to 3 at the address */
+    uint8_t is_text;
+    uint8_t character, attribute;         /* text: the cell */
+    uint8_t map;                          /* text: the character map, 0 to 7 */
+    uint8_t glyph_row;                    /* text: the row of the glyph; its left dot is bit 7 */
+    uint8_t is_cursor, is_blinked_away;   /* text: a dot of the cursor; blinks and is away now */
+    uint8_t is_underlined, is_glyph_dot;  /* text: a dot of the underline; of the glyph */
+    uint8_t is_foreground;                /* text: the dot has the foreground of its cell */
+    uint8_t has_palette;                  /* 1 unless the adapter shows 256 colours */
+    uint8_t nibble;                       /* palette: the four bits of the dot */
+    uint8_t palette_register;             /* palette: those of planes that are enabled */
+    uint8_t palette_value;                /* palette: what the palette register holds, 0 to 63 */
+    uint8_t is_colour_select_wide;        /* palette: colour select gives bits 5 and 4, too */
+    uint8_t middle, high;                 /* palette: bits 5 and 4 of the number; bits 7 and 6 */
+    uint8_t is_palette_shown;             /* 0: the overscan colour is shown instead */
+    uint8_t number;                       /* the number of the colour */
+    uint8_t mask, entry;                  /* the DAC's mask; the DAC's entry, 0 to 255 */
+    uint8_t is_screen_off;
+    zak_colour colour;
+} zak_dot_source;
+
+zak_status zak_explain_dot(zak_card *card, const zak_beam *beam, zak_dot_source *source);
+
+/* Say what a write of a byte or a read does on its way, and do not do it. Refused as zak_put and
+ * zak_get are. The arrays have the byte of each plane. In write mode 1 the planes get the latches,
+ * so rotated, data, combined and mask do not matter. */
+typedef struct zak_write_stages {
+    uint16_t in_window, offset;           /* the offset in the window, and in each plane */
+    uint8_t write_mode;                   /* 0 to 3 */
+    uint8_t rotated;                      /* the byte, rotated right */
+    uint8_t data[4];                      /* what goes into the function: it, or set/reset */
+    uint8_t combined[4];                  /* what comes out of the function with the latches */
+    uint8_t mask;                         /* the bits that may change; others are the latches' */
+    uint8_t planes;                       /* bit p: the write reaches plane p */
+    uint8_t before[4], written[4];        /* before; what the planes get that it reaches */
+} zak_write_stages;
+
+typedef struct zak_read_stages {
+    uint16_t in_window, offset;           /* the offset in the window, and in each plane */
+    uint8_t loaded[4];                    /* what the latches get */
+    uint8_t is_compare;                   /* 1 in read mode 1, which compares colours */
+    uint8_t plane;                        /* the plane that read mode 0 reads */
+    uint8_t value;                        /* the byte that the read returns */
+} zak_read_stages;
+
+zak_status zak_explain_put(zak_card *card, uint32_t address, uint8_t value,
+                           zak_write_stages *stages);
+zak_status zak_explain_get(zak_card *card, uint32_t address, zak_read_stages *stages);
+
+/* Writes a script that leads from power-on to the state of the card, with the same fonts. The call
+ * runs the script and compares before it answers. *are_dots_other is true if the frame under way
+ * was drawn otherwise until now; all else is the same. It rebuilds each state that steps led to. A
+ * restored state may be one that no steps lead to: ZAK_NOT_REBUILT. ZAK_NO_ROOM: *script_len is the
+ * number of bytes needed, *are_dots_other is written, and script is unchanged. ZAK_TOO_LONG: the
+ * script would have more than 16,777,216 bytes. The call allocates up to four more cards, bytes
+ * for two states, and the script. ZAK_OUT_OF_MEMORY. */
+zak_status zak_rebuild(zak_card *card, uint8_t *script, size_t script_cap, size_t *script_len,
+                       bool *are_dots_other);
+
 /* Makes a whole run without a card: a script in (docs/SCRIPT.md), its report out (docs/REPORT.md).
  * ZAK_NO_ROOM: *report_len is the number of bytes needed. ZAK_BAD_STEP, ZAK_TRUNCATED,
  * ZAK_TOO_MANY: *place is the offset of the step or repeat in the script, in bytes. ZAK_FONT_SIZE,
@@ -424,6 +572,35 @@ zak_status zak_run_on(zak_card *card, const uint8_t *script, size_t script_len, 
  * 16,777,216 bytes. ZAK_OUT_OF_MEMORY. */
 zak_status zak_assemble(const uint8_t *text, size_t text_len, uint8_t *script, size_t script_cap,
                         size_t *script_len, size_t *line);
+
+/* Says what is wrong in a text that zak_assemble refuses: the line, the part of it, what kind of
+ * mistake it is, and a sentence in lower case with no full stop. If the text spells a script, all
+ * of *mistake is 0, and the sentence has no bytes. ZAK_NO_ROOM: *mistake is written, *sentence_len
+ * is the number of bytes needed, and sentence is unchanged. ZAK_MOST_MISTAKE_TEXT bytes are always
+ * enough. ZAK_OUT_OF_MEMORY. */
+typedef struct zak_mistake {
+    size_t line;          /* number of the line, from 1; 0 if the mistake is in none */
+    size_t start, length; /* the part of the line, in bytes; start is 0 at its first */
+    uint32_t kind;        /* ZAK_MISTAKE_.., or 0 */
+} zak_mistake;
+
+enum {
+    ZAK_MISTAKE_CHARACTER = 1,   /* a character that no line has outside comments */
+    ZAK_MISTAKE_COMMENT = 2,     /* a comment that begins as in another language */
+    ZAK_MISTAKE_STEP = 3,        /* a first word that begins no line */
+    ZAK_MISTAKE_FORM = 4,        /* a word too few or too many */
+    ZAK_MISTAKE_NUMBER = 5,
+    ZAK_MISTAKE_SHOW = 6,        /* what `show` is to show */
+    ZAK_MISTAKE_CALL = 7,        /* a register of `int` */
+    ZAK_MISTAKE_BLOCK = 8,       /* the block of `int` */
+    ZAK_MISTAKE_ORDER = 9,       /* a good line that may not stand there */
+    ZAK_MISTAKE_UNKNOWN = 10,
+    ZAK_MISTAKE_LONG_TEXT = 11,  /* more than 16,777,216 bytes of text */
+    ZAK_MISTAKE_LONG_SCRIPT = 12 /* more than 16,777,216 bytes of script */
+};
+
+zak_status zak_explain_text(const uint8_t *text, size_t text_len, zak_mistake *mistake,
+                            uint8_t *sentence, size_t sentence_cap, size_t *sentence_len);
 
 /* Disassembles a script into text: a line for each step, with every number at full width, and for
  * each `version 2`, `repeat` and `end`. A script contains no comments. ZAK_NO_ROOM: *text_len is

@@ -11,6 +11,7 @@
 
 #include <cstddef>
 #include <cstdint>
+#include <optional>
 #include <stdexcept>
 #include <string>
 #include <type_traits>
@@ -119,6 +120,24 @@ using bytes = span<const std::uint8_t>;
 struct picture {
     std::uint32_t width, height;
     span<const std::uint8_t> rgb;
+};
+
+/* Why a card would refuse a step: the status, the kind ZAK_WHY_.. and its numbers, and a sentence. */
+struct reason : zak_reason {
+    std::string text;
+};
+
+/* A script that leads from power-on to a card's state. If are_dots_other is true, the frame under way
+ * was drawn otherwise until now; all else is the same. */
+struct rebuilt {
+    std::vector<std::uint8_t> script;
+    bool are_dots_other;
+};
+
+/* What is wrong in a text: the line, the part of it, the kind ZAK_MISTAKE_.., and a sentence in lower
+ * case with no full stop. */
+struct mistake : zak_mistake {
+    std::string sentence;
 };
 
 /* A VGA adapter with its video BIOS, open as long as the object lives. You can move it, but not copy it. */
@@ -287,6 +306,46 @@ public:
     void save_fixed(span<std::uint8_t> into) { check(zak_save_fixed(&raw_, into.data(), into.size())); }
     void restore_fixed(bytes state) { check(zak_restore_fixed(&raw_, state.data(), state.size())); }
 
+    /* Says why a step of a script would be refused, by default the first one. No value: the card would
+     * do it. If the script is damaged, the error's place is the offset in it. */
+    std::optional<reason> explain_step(bytes script, std::uint32_t step = 0)
+    {
+        reason why{};
+        std::uint8_t text[ZAK_MOST_REASON_TEXT];
+        std::size_t len = 0, place = 0;
+        check(zak_explain_step(&raw_, script.data(), script.size(), step, &why, text, sizeof text, &len, &place),
+              place);
+        if (why.status == ZAK_OK)
+            return std::nullopt;
+        why.text.assign(text, text + len);
+        return why;
+    }
+
+    /* Says where the colour of the dot at a beam comes from; by default of the next dot. */
+    zak_dot_source explain_dot() { return explain_dot(beam()); }
+    zak_dot_source explain_dot(const zak_beam &at) { return read<zak_dot_source>(zak_explain_dot, &at); }
+
+    /* Say what put and get would do on the way, and do not do it. */
+    zak_write_stages explain_put(std::uint32_t address, std::uint8_t value)
+    {
+        return read<zak_write_stages>(zak_explain_put, address, value);
+    }
+    zak_read_stages explain_get(std::uint32_t address) { return read<zak_read_stages>(zak_explain_get, address); }
+
+    /* Writes a script that leads from power-on to this state, with the same fonts. */
+    rebuilt rebuild()
+    {
+        rebuilt made{std::vector<std::uint8_t>(std::size_t(1) << 20), false};
+        std::size_t len = 0;
+        zak_status status;
+        while ((status = zak_rebuild(&raw_, made.script.data(), made.script.size(), &len,
+                                     &made.are_dots_other)) == ZAK_NO_ROOM)
+            made.script.resize(len);
+        check(status);
+        made.script.resize(len);
+        return made;
+    }
+
     /* For calls that have no function here. */
     zak_card *raw() noexcept { return &raw_; }
 
@@ -318,6 +377,20 @@ inline std::vector<std::uint8_t> assemble(const std::string &text)
     }
     check(status, line);
     return script;
+}
+
+/* Says what is wrong in a text that assemble refuses. No value: the text spells a script. */
+inline std::optional<mistake> explain_text(const std::string &text)
+{
+    mistake found{};
+    std::uint8_t sentence[ZAK_MOST_MISTAKE_TEXT];
+    std::size_t len = 0;
+    check(zak_explain_text(reinterpret_cast<const std::uint8_t *>(text.data()), text.size(), &found, sentence,
+                           sizeof sentence, &len));
+    if (found.kind == 0)
+        return std::nullopt;
+    found.sentence.assign(sentence, sentence + len);
+    return found;
 }
 
 /* Runs a script, and returns its report. */

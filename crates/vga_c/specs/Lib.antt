@@ -28,3 +28,9 @@ pub mod Version
 pub mod Timing
 pub mod Transfers
 pub mod Updates
+pub mod DotSources
+pub mod Mistakes
+pub mod ReasonNumbers
+pub mod Rebuilding
+pub mod Stages
+pub mod StepReasons

@@ -77,6 +77,10 @@ no_screen_status = 28
 abbrev pub many_colours_status : ℕ
 many_colours_status = 35
 
+-- the steps that were tried lead to another state
+abbrev pub no_rebuilding_status : ℕ
+no_rebuilding_status = 36
+
 -- a script would have more bytes than a script may have
 abbrev pub script_too_long_status : ℕ
 script_too_long_status = 106

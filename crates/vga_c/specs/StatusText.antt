@@ -64,6 +64,8 @@ status_text status =
     then codes "ZAK_STATE_CHECKSUM: The checksum of the state is wrong."
     else if status == 35
     then codes "ZAK_MANY_COLOURS: The picture has more than 256 colours."
+    else if status == 36
+    then codes "ZAK_NOT_REBUILT: The steps that were tried lead to another state."
     else if status == 102
     then codes "ZAK_BAD_MAGIC: The bytes are no script: they don't begin with VGAS."
     else if status == 103

@@ -9,6 +9,9 @@ use vga_bits::Refusal;
 /// The call is done.
 pub(crate) const DONE: u32 = 0;
 
+/// No part of the adapter decodes the port or the address.
+pub(crate) const NOT_DECODED: u32 = 1;
+
 /// The card is not open.
 pub(crate) const NO_CARD: u32 = 20;
 
@@ -42,6 +45,9 @@ pub(crate) const STATE_CHECKSUM: u32 = 34;
 /// The picture has more than 256 colours.
 pub(crate) const MANY_COLOURS: u32 = 35;
 
+/// The steps that were tried lead to another state.
+pub(crate) const NOT_REBUILT: u32 = 36;
+
 /// A script would have more bytes than a script may have.
 pub(crate) const TOO_LONG: u32 = 106;
 
@@ -50,7 +56,7 @@ pub(crate) fn refusal_status(refusal: Refusal) -> u32
     ensures { result ≡ refusal_status_of refusal }
 {
     match refusal {
-        Refusal::NotDecoded => 1,
+        Refusal::NotDecoded => NOT_DECODED,
         Refusal::NotInProfile => 2,
         Refusal::NoMode => 3,
         Refusal::BadFunction => 4,

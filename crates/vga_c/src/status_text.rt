@@ -40,6 +40,7 @@ fn text_of_status(status: u32) -> &'static str
         33 => "ZAK_STATE_PART: A part of the state is out of its bounds.",
         34 => "ZAK_STATE_CHECKSUM: The checksum of the state is wrong.",
         35 => "ZAK_MANY_COLOURS: The picture has more than 256 colours.",
+        36 => "ZAK_NOT_REBUILT: The steps that were tried lead to another state.",
         102 => "ZAK_BAD_MAGIC: The bytes are no script: they don't begin with VGAS.",
         103 => "ZAK_BAD_VERSION: The script has another version.",
         104 => "ZAK_BAD_STEP: No step stands here, or it is out of range.",

@@ -88,7 +88,8 @@ impl<'a> Drive<'a> {
     }
 
     /// Appends the steps that reach line compare at the first line, and then count rows of one scan
-    /// line up to the beam's counter, and scan lines up to the beam's. There are `lines` lines.
+    /// line up to the beam's counter, and scan lines up to the beam's. There are `lines` lines. A
+    /// beam that steps led to has so many at least.
     fn count_from_split(&mut self, beam: Beam, lines: u16) -> Result<(), Fault> {
         let rows = beam.base / LARGEST_STEP;
         let rest = beam.base % LARGEST_STEP / 2;
@@ -98,10 +99,12 @@ impl<'a> Drive<'a> {
         self.set(LINE_COMPARE, 0)?;
         self.set(OFFSET, 0xFF)?;
         self.lines(rows + 1)?;
-        self.set(OFFSET, rest as u8)?;
-        self.lines(1)?;
+        if rest > 0 {
+            self.set(OFFSET, rest as u8)?;
+            self.lines(1)?;
+        }
         self.set(OFFSET, 0)?;
-        self.lines(lines.saturating_sub(rows + 2 + scan))?;
+        self.lines(lines.saturating_sub(rows + 1 + (rest > 0) as u16 + scan))?;
         self.set(MAXIMUM_SCAN_LINE, MOST_SCAN_LINES)?;
         self.lines(scan)
     }

@@ -64,13 +64,17 @@ impl Opening {
     }
 }
 
-/// The planes, as a map mask, that are filled with the byte of a plane.
-fn planes_filled_as(bytes: [u8; 4], plane: usize) -> u8
+/// The planes, as a map mask, that are filled with the byte of a plane; none if a plane before it
+/// is filled with that byte, too.
+fn planes_filled_from(bytes: [u8; 4], plane: usize) -> u8
     requires { plane < 4 }
 {
     let mut planes = 0;
     for other in 0..4usize {
         if bytes[other] == bytes[plane] {
+            if other < plane {
+                return 0;
+            }
             planes |= 1 << other;
         }
     }
@@ -83,8 +87,8 @@ fn push_fills(steps: &mut StepList, bytes: [u8; 4]) -> Result<(), Fault> {
     steps.call(PACKED_MODE | KEEPS_MEMORY, 0, 0, 0)?;
     push_planar(steps)?;
     for plane in 0..4usize {
-        let planes = planes_filled_as(bytes, plane);
-        if bytes[plane] != 0 && planes.trailing_zeros() == plane as u32 {
+        let planes = planes_filled_from(bytes, plane);
+        if bytes[plane] != 0 && planes != 0 {
             steps.register(SEQUENCER_INDEX, MAP_MASK, planes)?;
             push_blank_page(steps, bytes[plane])?;
         }

@@ -49,11 +49,12 @@ impl NotRebuilt {
     }
 }
 
-/// The fault that ended the building or the run of a script.
+/// The fault that ended the building or the run of a script. The report of the run is written to
+/// memory, so that its writer fails only if an allocation does.
 impl From<Fault> for NotRebuilt {
     fn from(fault: Fault) -> NotRebuilt {
         match fault {
-            Fault::OutOfMemory => NotRebuilt::OutOfMemory,
+            Fault::OutOfMemory | Fault::WriteFault => NotRebuilt::OutOfMemory,
             Fault::TooLong | Fault::TooMany(_) => NotRebuilt::TooLong,
             _ => NotRebuilt::NotLedThere,
         }

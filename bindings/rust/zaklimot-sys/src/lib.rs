@@ -212,6 +212,90 @@ pub struct zak_place {
     pub column: u8,
 }
 
+/// `zak_reason` of the header.
+#[repr(C)]
+#[derive(Clone, Copy, Debug, Default, PartialEq, Eq)]
+pub struct zak_reason {
+    pub status: u32,
+    pub kind: u32,
+    pub numbers: [u32; 5],
+    pub is_high: bool,
+}
+
+/// `zak_dot_source` of the header.
+#[repr(C)]
+#[derive(Clone, Copy, Debug, Default, PartialEq, Eq)]
+pub struct zak_dot_source {
+    pub counter: u16,
+    pub address: u16,
+    pub glyph_address: u16,
+    pub is_display: u8,
+    pub panning: u8,
+    pub dot: u8,
+    pub bytes: [u8; 4],
+    pub is_text: u8,
+    pub character: u8,
+    pub attribute: u8,
+    pub map: u8,
+    pub glyph_row: u8,
+    pub is_cursor: u8,
+    pub is_blinked_away: u8,
+    pub is_underlined: u8,
+    pub is_glyph_dot: u8,
+    pub is_foreground: u8,
+    pub has_palette: u8,
+    pub nibble: u8,
+    pub palette_register: u8,
+    pub palette_value: u8,
+    pub is_colour_select_wide: u8,
+    pub middle: u8,
+    pub high: u8,
+    pub is_palette_shown: u8,
+    pub number: u8,
+    pub mask: u8,
+    pub entry: u8,
+    pub is_screen_off: u8,
+    pub colour: zak_colour,
+}
+
+/// `zak_write_stages` of the header.
+#[repr(C)]
+#[derive(Clone, Copy, Debug, Default, PartialEq, Eq)]
+pub struct zak_write_stages {
+    pub in_window: u16,
+    pub offset: u16,
+    pub write_mode: u8,
+    pub rotated: u8,
+    pub data: [u8; 4],
+    pub combined: [u8; 4],
+    pub mask: u8,
+    pub planes: u8,
+    pub before: [u8; 4],
+    pub written: [u8; 4],
+}
+
+/// `zak_read_stages` of the header.
+#[repr(C)]
+#[derive(Clone, Copy, Debug, Default, PartialEq, Eq)]
+pub struct zak_read_stages {
+    pub in_window: u16,
+    pub offset: u16,
+    pub loaded: [u8; 4],
+    pub is_compare: u8,
+    pub plane: u8,
+    pub value: u8,
+}
+
+/// `zak_mistake` of the header.
+#[repr(C)]
+#[derive(Clone, Copy, Debug, Default, PartialEq, Eq)]
+pub struct zak_mistake {
+    pub line: usize,
+    pub start: usize,
+    pub length: usize,
+    pub kind: u32,
+}
+
 pub const ZAK_OK: zak_status = 0;
 pub const ZAK_NOT_DECODED: zak_status = 1;
 pub const ZAK_NOT_IN_PROFILE: zak_status = 2;
@@ -242,6 +326,7 @@ pub const ZAK_STATE_LENGTH: zak_status = 32;
 pub const ZAK_STATE_PART: zak_status = 33;
 pub const ZAK_STATE_CHECKSUM: zak_status = 34;
 pub const ZAK_MANY_COLOURS: zak_status = 35;
+pub const ZAK_NOT_REBUILT: zak_status = 36;
 pub const ZAK_BAD_MAGIC: zak_status = 102;
 pub const ZAK_BAD_VERSION: zak_status = 103;
 pub const ZAK_BAD_STEP: zak_status = 104;
@@ -263,8 +348,61 @@ pub const ZAK_ONCE: u32 = 2;
 pub const ZAK_MOST_TABLE: u32 = 768;
 pub const ZAK_MOST_TEXT: u32 = 32768;
 pub const ZAK_MOST_STATUS_TEXT: u32 = 128;
+pub const ZAK_MOST_REASON_TEXT: u32 = 160;
+pub const ZAK_MOST_MISTAKE_TEXT: u32 = 256;
 pub const ZAK_FIRST_STATE: u32 = 265086;
 pub const ZAK_MOST_STATE: u32 = 7342974;
+pub const ZAK_WHY_NO_PORT: u32 = 1;
+pub const ZAK_WHY_OTHER_CRT_CONTROLLER: u32 = 2;
+pub const ZAK_WHY_READ_ONLY: u32 = 3;
+pub const ZAK_WHY_PORT_LEFT_OUT: u32 = 4;
+pub const ZAK_WHY_NO_REGISTER: u32 = 5;
+pub const ZAK_WHY_BIT_LEFT_OUT: u32 = 6;
+pub const ZAK_WHY_FIELD_LEFT_OUT: u32 = 7;
+pub const ZAK_WHY_MEMORY_OFF: u32 = 8;
+pub const ZAK_WHY_OUTSIDE_WINDOW: u32 = 9;
+pub const ZAK_WHY_LAST_PORT: u32 = 10;
+pub const ZAK_WHY_LAST_ADDRESS: u32 = 11;
+pub const ZAK_WHY_NO_MODE_SET: u32 = 12;
+pub const ZAK_WHY_NO_SERVICE: u32 = 13;
+pub const ZAK_WHY_NO_SUCH_MODE: u32 = 14;
+pub const ZAK_WHY_NO_PIXELS: u32 = 15;
+pub const ZAK_WHY_NO_CHARACTER_MAP: u32 = 16;
+pub const ZAK_WHY_NO_PAGE: u32 = 17;
+pub const ZAK_WHY_CURSOR_OUTSIDE: u32 = 18;
+pub const ZAK_WHY_POSITION_OUTSIDE: u32 = 19;
+pub const ZAK_WHY_PIXEL_OUTSIDE: u32 = 20;
+pub const ZAK_WHY_CELLS_PAST: u32 = 21;
+pub const ZAK_WHY_GLYPHS_PAST: u32 = 22;
+pub const ZAK_WHY_NO_PALETTE_REGISTER: u32 = 23;
+pub const ZAK_WHY_NO_BLINKING: u32 = 24;
+pub const ZAK_WHY_NO_ENTRY: u32 = 25;
+pub const ZAK_WHY_NO_ENTRIES: u32 = 26;
+pub const ZAK_WHY_WRONG_BLOCK: u32 = 27;
+pub const ZAK_WHY_NO_HEIGHT: u32 = 28;
+pub const ZAK_WHY_TOO_MANY_DOTS: u32 = 29;
+pub const ZAK_WHY_NO_CELLS_YET: u32 = 30;
+pub const ZAK_WHY_NO_CELLS: u32 = 31;
+pub const ZAK_GROUP_SEQUENCER: u32 = 0;
+pub const ZAK_GROUP_GRAPHICS_CONTROLLER: u32 = 1;
+pub const ZAK_GROUP_CRT_CONTROLLER: u32 = 2;
+pub const ZAK_GROUP_ATTRIBUTE_CONTROLLER: u32 = 3;
+pub const ZAK_PART_INPUT_STATUS_0: u32 = 0;
+pub const ZAK_PART_SUBSYSTEM_ENABLE: u32 = 1;
+pub const ZAK_PART_DAC_STATE: u32 = 2;
+pub const ZAK_PART_FEATURE_CONTROL: u32 = 3;
+pub const ZAK_MISTAKE_CHARACTER: u32 = 1;
+pub const ZAK_MISTAKE_COMMENT: u32 = 2;
+pub const ZAK_MISTAKE_STEP: u32 = 3;
+pub const ZAK_MISTAKE_FORM: u32 = 4;
+pub const ZAK_MISTAKE_NUMBER: u32 = 5;
+pub const ZAK_MISTAKE_SHOW: u32 = 6;
+pub const ZAK_MISTAKE_CALL: u32 = 7;
+pub const ZAK_MISTAKE_BLOCK: u32 = 8;
+pub const ZAK_MISTAKE_ORDER: u32 = 9;
+pub const ZAK_MISTAKE_UNKNOWN: u32 = 10;
+pub const ZAK_MISTAKE_LONG_TEXT: u32 = 11;
+pub const ZAK_MISTAKE_LONG_SCRIPT: u32 = 12;
 extern "C" {
     pub fn zak_version() -> u32;
     pub fn zak_status_text(
@@ -484,6 +622,40 @@ extern "C" {
     pub fn zak_save_fixed(card: *mut zak_card, bytes: *mut u8, bytes_len: usize) -> zak_status;
     pub fn zak_restore_fixed(card: *mut zak_card, bytes: *const u8, bytes_len: usize)
         -> zak_status;
+    pub fn zak_explain_step(
+        card: *mut zak_card,
+        script: *const u8,
+        script_len: usize,
+        step: u32,
+        reason: *mut zak_reason,
+        text: *mut u8,
+        text_cap: usize,
+        text_len: *mut usize,
+        place: *mut usize,
+    ) -> zak_status;
+    pub fn zak_explain_dot(
+        card: *mut zak_card,
+        beam: *const zak_beam,
+        source: *mut zak_dot_source,
+    ) -> zak_status;
+    pub fn zak_explain_put(
+        card: *mut zak_card,
+        address: u32,
+        value: u8,
+        stages: *mut zak_write_stages,
+    ) -> zak_status;
+    pub fn zak_explain_get(
+        card: *mut zak_card,
+        address: u32,
+        stages: *mut zak_read_stages,
+    ) -> zak_status;
+    pub fn zak_rebuild(
+        card: *mut zak_card,
+        script: *mut u8,
+        script_cap: usize,
+        script_len: *mut usize,
+        are_dots_other: *mut bool,
+    ) -> zak_status;
     pub fn zak_run(
         script: *const u8,
         script_len: usize,
@@ -513,6 +685,14 @@ extern "C" {
         script_cap: usize,
         script_len: *mut usize,
         line: *mut usize,
+    ) -> zak_status;
+    pub fn zak_explain_text(
+        text: *const u8,
+        text_len: usize,
+        mistake: *mut zak_mistake,
+        sentence: *mut u8,
+        sentence_cap: usize,
+        sentence_len: *mut usize,
     ) -> zak_status;
     pub fn zak_print(
         script: *const u8,

@@ -147,7 +147,7 @@ fn calls_are_the_headers() {
 #[test]
 fn structs_are_the_headers() {
     let (source, structs) = (source(), structs());
-    assert_eq!(structs.len(), 17);
+    assert_eq!(structs.len(), 22);
     for one in &structs {
         assert!(source.contains(one.as_str()), "the crate lacks\n{one}");
     }
@@ -165,6 +165,15 @@ fn statuses_are_the_headers() {
     assert_eq!(source.matches(": zak_status = ").count(), statuses.len());
 }
 
+/// The numbers that the header names in its enums, but for the statuses, which are in the first.
+fn named() -> Vec<String> {
+    let header = header();
+    let bodies =
+        header.split("enum {").skip(2).map(|rest| rest.split_once('}').expect("its end").0);
+    let lines = bodies.flat_map(|body| body.split(',').map(plain)).filter(|line| !line.is_empty());
+    lines.map(|line| format!("pub const {}: u32 = {};", words(&line).0, words(&line).1)).collect()
+}
+
 /// The numbers that the header defines, those that others are made of in their place.
 #[test]
 fn numbers_are_the_headers() {
@@ -180,8 +189,9 @@ fn numbers_are_the_headers() {
     let own: BTreeSet<String> = known
         .iter()
         .map(|(name, number)| format!("pub const ZAK_{name}: u32 = {number};"))
+        .chain(named())
         .collect();
-    assert!(own.len() >= 12, "{own:?}");
+    assert!(own.len() >= 67, "{own:?}");
     for one in &own {
         assert!(source.contains(one.as_str()), "the crate lacks\n{one}");
     }

@@ -67,7 +67,7 @@ pub struct Slice {
 /// ```
 #[derive(Debug)]
 pub struct Card {
-    raw: sys::zak_card,
+    pub(crate) raw: sys::zak_card,
     // Memory for frames, allocated at the first one.
     rgb: Vec<u8>,
     xrgb: Vec<u32>,

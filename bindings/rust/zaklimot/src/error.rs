@@ -46,8 +46,8 @@ pub enum Error {
     Ragged,
     /// The buffer is too short: nothing was written there. A frame has passed.
     NoRoom,
-    /// There is no such page, row, column, x, y or plane; or bytes go past the plane's end, or past
-    /// the last address.
+    /// There is no such page, row, column, x, y, plane, beam or step; or bytes go past the plane's
+    /// end, or past the last address.
     BadArgument,
     /// Corrupt BIOS data: the card's memory was overwritten.
     BadCard,
@@ -69,6 +69,8 @@ pub enum Error {
     /// The picture has more than 256 colours. The frame has passed, and
     /// [`Card::peek`](crate::Card::peek) still gives its dots.
     ManyColours,
+    /// The steps that [`Card::rebuild`](crate::Card::rebuild) tried lead to another state.
+    NotRebuilt,
     /// The bytes are no script: they don't begin with `VGAS`.
     BadMagic,
     /// A script of another version.
@@ -123,7 +125,8 @@ statuses! {
     ZAK_NO_ROOM NoRoom, ZAK_BAD_ARGUMENT BadArgument, ZAK_BAD_CARD BadCard,
     ZAK_NO_SCREEN NoScreen, ZAK_BROKEN Broken, ZAK_STATE_MAGIC StateMagic,
     ZAK_STATE_VERSION StateVersion, ZAK_STATE_LENGTH StateLength, ZAK_STATE_PART StatePart,
-    ZAK_STATE_CHECKSUM StateChecksum, ZAK_MANY_COLOURS ManyColours, ZAK_BAD_MAGIC BadMagic,
+    ZAK_STATE_CHECKSUM StateChecksum, ZAK_MANY_COLOURS ManyColours, ZAK_NOT_REBUILT NotRebuilt,
+    ZAK_BAD_MAGIC BadMagic,
     ZAK_BAD_VERSION BadVersion, ZAK_BAD_STEP BadStep(place), ZAK_TRUNCATED Truncated(place),
     ZAK_TOO_LONG TooLong, ZAK_BAD_LINE BadLine(place), ZAK_TOO_MANY TooMany(place),
 }
@@ -184,13 +187,13 @@ pub(crate) fn done_at(status: u32, place: usize) -> Result<(), Error> {
 }
 
 #[cfg(test)]
-mod tests {
+pub(crate) mod tests {
     use super::*;
 
     const HEADER: &str = include_str!(env!("ZAKLIMOT_HEADER"));
 
-    /// The Rust name of a status that has this name in the header.
-    fn camel(name: &str) -> String {
+    /// The Rust name of what has this name in the header.
+    pub(crate) fn camel(name: &str) -> String {
         let parts = name.split('_').map(|part| {
             let (first, rest) = part.split_at(1);
             first.to_string() + &rest.to_lowercase()
@@ -198,17 +201,33 @@ mod tests {
         parts.collect()
     }
 
+    /// The numbers of an enum's lines, by the names behind `ZAK_`.
+    fn numbers_in(body: &str) -> Vec<(&str, u32)> {
+        let lines = body.lines().filter_map(|line| line.trim().strip_prefix("ZAK_"));
+        let parts = lines.filter_map(|line| line.split_once(" = "));
+        parts
+            .map(|(name, value)| {
+                let digits: String = value.chars().take_while(char::is_ascii_digit).collect();
+                (name, digits.parse().unwrap())
+            })
+            .collect()
+    }
+
+    /// Those of the header whose names begin so, by what is behind that.
+    pub(crate) fn numbers_of(prefix: &str) -> Vec<(String, u32)> {
+        let all = numbers_in(HEADER).into_iter();
+        all.filter_map(|(name, number)| Some((name.strip_prefix(prefix)?.to_string(), number)))
+            .collect()
+    }
+
     #[test]
     fn each_status_of_the_header_has_its_variant() {
         let (_, rest) = HEADER.split_once("enum {").unwrap();
         let (body, _) = rest.split_once("};").unwrap();
         let mut count = 0;
-        for line in body.lines().filter_map(|line| line.trim().strip_prefix("ZAK_")) {
-            let (name, value) = line.split_once(" = ").unwrap();
-            let digits: String = value.chars().take_while(char::is_ascii_digit).collect();
-            let (name, status) = (camel(name), digits.parse().unwrap());
+        for (name, status) in numbers_in(body) {
             if status != sys::ZAK_OK {
-                assert!(NAMES.contains(&(name.as_str(), status)), "{name} {status}");
+                assert!(NAMES.contains(&(camel(name).as_str(), status)), "{name} {status}");
                 assert_eq!(Error::at(status, 7).number(), status);
                 count += 1;
             }

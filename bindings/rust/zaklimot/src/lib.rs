@@ -32,16 +32,24 @@ struct Readme;
 
 mod card;
 mod error;
+mod explained;
+mod mistake;
 mod picture;
+mod reason;
 mod script;
+mod stages;
 mod state;
 
 pub use card::{Card, Slice};
 pub use error::Error;
+pub use explained::Rebuilt;
+pub use mistake::{explain_text, Mistake, MistakeKind};
 pub use picture::{
     Form, IndexedPicture, Lines, Palette, Picture, ScanLine, Size, WordSize, XrgbPicture,
 };
+pub use reason::{Group, Part, Reason, Why};
 pub use script::{assemble, disassemble, run};
+pub use stages::{DotSource, PaletteSource, ReadStages, TextSource, WriteStages};
 pub use state::{
     Answer, Beam, BiosData, Cell, Colour, Direction, Latches, Position, Registers, Regs, Screen,
     Source, Timing,

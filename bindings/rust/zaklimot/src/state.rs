@@ -3,7 +3,7 @@
 use zaklimot_sys as sys;
 
 /// A field of the library's struct, or a flag.
-trait Taken<T> {
+pub(crate) trait Taken<T> {
     fn taken(self) -> T;
 }
 
@@ -40,6 +40,7 @@ macro_rules! read {
         }
     };
 }
+pub(crate) use read;
 
 read! {
     /// All registers of the adapter.
@@ -110,6 +111,14 @@ read! {
         half: bool,
         /// Line compare was reached in this frame.
         split: bool,
+    }
+}
+
+impl From<Beam> for sys::zak_beam {
+    fn from(beam: Beam) -> sys::zak_beam {
+        let Beam { line, character, dot, base, scan, rows, frame, half, split } = beam;
+        let (half, split) = (half.into(), split.into());
+        sys::zak_beam { line, character, dot, base, scan, rows, frame, half, split }
     }
 }
 

@@ -24,13 +24,15 @@ C_FILE, PROGRAM = (TOP / "portable" / name for name in ("zaklimot.c", "vga.c"))
 HAND = Path(__file__).resolve().parent / "c"
 HEAD = HAND / "head.c"
 MEMORY = HAND / "memory.c"
-CALLS = [HAND / name for name in ("cards.c", "pictures.c", "readings.c", "scripts.c")]
+CALLS = [
+    HAND / name for name in ("cards.c", "pictures.c", "readings.c", "scripts.c", "explained.c")
+]
 # The program that writes C, and the name that the module gets in what it writes.
 WASM2C = "wasm2c"
 NAME = "zaklimot"
 TRANSLATORS = (WASM_OPT, WASM2C)
 # The file has at most so many bytes.
-MOST_BYTES = 3_000_000
+MOST_BYTES = 3_500_000
 INSTANCE = f"Z_{NAME}_instance_t"
 NAMED = "what wasm2c wrote"
 # The parts of what wasm2c writes.
@@ -77,11 +79,12 @@ CALLED = re.compile(r"\b(w2c_(?:f\d+|page_\w+|zak_\w+))\(self")
 # The words that a function may consist of, beside its names and numbers.
 WORDS = frozenset(
     """
-    u8 u32 u64 s8 s32 s64 if else switch case default goto return self pages memory_grow UNREACHABLE
+    u8 u16 u32 u64 s8 s16 s32 s64 if else switch case default goto return self pages memory_grow
+    UNREACHABLE
     i32_load8_u i32_load8_s i32_load16_u i32_load i32_store8 i32_store16 i32_store
     i64_load8_u i64_load8_s i64_load16_u i64_load32_u i64_load
     i64_store8 i64_store16 i64_store32 i64_store memory_copy memory_fill DIV_U REM_U I32_CTZ
-    FUNC_PROLOGUE
+    I64_CTZ FUNC_PROLOGUE
     """.split()
 )
 NAMES = re.compile(r"w2c_(?:[iljpgfBL]\d+|Bfunc|page_take|page_give|zak_\w+)")

@@ -9,6 +9,7 @@ import re
 import shlex
 import shutil
 import sys
+from itertools import product
 from pathlib import Path
 from typing import Any, NamedTuple, Optional, Sequence
 
@@ -148,7 +149,9 @@ def check_names(built: Built, _: Path) -> str:
 
 
 # A line of misuse.txt that tells a call's status; functions of misuse.c make some.
-CALL = re.compile(r"^(?:zak_\w+|restore_with|assemble|print|take)\(", re.M)
+CALL = re.compile(
+    r"^(?:zak_\w+|restore_with|assemble|print|take|explain|explain_text|dot_at)\(", re.M
+)
 WRAPPED = "-Wl,--wrap=malloc,--wrap=calloc,--wrap=realloc,--wrap=free"
 
 
@@ -194,7 +197,21 @@ COUNTED = {
     "cycles": CountingProgram(
         SANITIZED, ["2000"], "calls of interrupt 10, each what its listed cycles are"
     ),
+    # A step is refused if zak_explain_step says so, over pseudo-random steps and states.
+    "refusals": CountingProgram(
+        SANITIZED, ["5000"], "steps, each refused if a reason is told, and only then"
+    ),
+    # Each dot of a frame has the colour that is told, by what planes and registers hold.
+    "dots": CountingProgram(["-O2"], ["300"], "dots, each drawn as it is explained"),
+    # A cycle of memory does what its stages say, over pseudo-random registers.
+    "stages": CountingProgram(SANITIZED, ["5000"], "cycles of memory, each as its stages say"),
+    # The script that rebuilds a state leads there, over pseudo-random states.
+    "rebuilding": CountingProgram(["-O2"], ["500"], "states, each rebuilt by its script"),
 }
+# Programs that write what is to be the text beside their sources: how misuse is answered. And those
+# that write what a card tells of steps and of texts, the second of which tries so many texts more.
+MISUSES = ("misuse", "misuse_explained")
+TELLING: dict[str, tuple[str, ...]] = {"reasons": (), "mistakes": ("5000",)}
 
 
 def expect(name: str, written: str) -> None:
@@ -210,13 +227,22 @@ def expect(name: str, written: str) -> None:
 
 def check_misuse(built: Built, folder: Path) -> str:
     """Calls that are wrong are answered by their statuses, and the sanitizers find nothing."""
-    for compiler in built.compilers:
-        words = build(
-            compiler.c, built, [SOURCES / "misuse.c"], folder / f"misuse-{compiler.c}", *SANITIZED
-        )
-        expect("misuse", run([*words, FONTS]))
-    count = len(CALL.findall((SOURCES / "misuse.txt").read_text("ascii")))
+    for compiler, name in product(built.compilers, MISUSES):
+        made = folder / f"{name}-{compiler.c}"
+        words = build(compiler.c, built, [SOURCES / f"{name}.c"], made, *SANITIZED)
+        expect(name, run([*words, FONTS]))
+    texts = [(SOURCES / f"{name}.txt").read_text("ascii") for name in MISUSES]
+    count = sum(len(CALL.findall(text)) for text in texts)
     return f"{count} calls answered as they should be, with sanitizers"
+
+
+def check_told(built: Built, folder: Path) -> str:
+    """Each reason why a step is refused, and each mistake in a text, is told as it should be."""
+    for name, more in TELLING.items():
+        source = SOURCES / f"{name}.c"
+        words = build(built.compilers[0].c, built, [source], folder / name, *SANITIZED)
+        expect(name, run([*words, FONTS, *more]))
+    return "each reason of a refusal and each mistake in a text, with sanitizers"
 
 
 def check_counted(name: str, built: Built, folder: Path) -> str:
@@ -316,6 +342,7 @@ PICTURES = {
     "core": "640x480 e4616bacd9e54c09502d9c64039bd566",
 }
 STEPPING = [EXAMPLES / "c" / name for name in ("debugger.c", "script.c")]
+EXPLAINING = [EXAMPLES / "c" / name for name in ("explain.c", "script.c")]
 # A text of few steps, the lines as which it is printed, and those of its report.
 TEXT = (
     b"; blanks and cases\r\nversion 2\n int AX=3\nrepeat 2\nput b8000 41\nGET b8000\nend\n\nin 3cc"
@@ -330,6 +357,13 @@ LONG = "version 2\nint ax=13\nrepeat 90\nadvance 12345\nshow beam\nin 3DA\nend\n
 LONG_STEPS = 272
 FROM = 150
 BACK = 45
+# A text with steps that are refused, what is told of each, and of the dot at the end.
+REFUSED = "int ax=3\nint ax=4\nout 60 1\nput B8000 DB\nint ax=508\nframe\n"
+EXPLAINED = re.compile(
+    r"step 2: E5: There is no mode 04\..*\nstep 3: E1: .* port 060\.\n"
+    r"step 5: E7: There is no page 08: .*\n"
+    r"(line 0: bytes DB 07 .. .. at 0000, character DB, attribute 07, entry 07: 42 42 42)\n"
+)
 
 
 def check_picture(
@@ -390,7 +424,27 @@ def check_scripts(built: Built, folder: Path) -> str:
     again = [f"after step {FROM - BACK}", *lines[FROM - BACK : LONG_STEPS]]
     if told != [*lines[:FROM], *again, "after step 0", *lines[:FROM]]:
         raise Wrong("the debugger's answers are not the harness's")
-    return "the debugger forward and back"
+    _check_explained(built, folder)
+    return "the debugger forward and back, and a script that is explained and rebuilt"
+
+
+def _check_explained(built: Built, folder: Path) -> None:
+    """The example explains refused steps, a dot and a bad line. What it rebuilds is explained and
+    rebuilt the same."""
+    explain = build(built.compilers[0].c, built, EXPLAINING, folder / "explain", *SANITIZED)
+    script, rebuilt, again = (folder / f"{name}.vga" for name in ("refused", "rebuilt", "again"))
+    script.write_text(REFUSED, "ascii")
+    told = run([*explain, FONTS, script, rebuilt])
+    found = EXPLAINED.fullmatch(told)
+    if found is None:
+        raise Wrong(f"of refused steps the example writes\n{told}")
+    told = run([*explain, FONTS, rebuilt, again])
+    if told != f"{found[1]}\n" or again.read_text("ascii") != rebuilt.read_text("ascii"):
+        raise Wrong(f"of a rebuilt state the example writes\n{told}")
+    script.write_text("frame\nmove 3C4 02", "ascii")
+    done = captured([*explain, FONTS, script])
+    if done.status != 1 or not done.output.startswith(b"line 2, column 1: "):
+        raise Wrong(f"of a bad line the example writes {done.output!r}")
 
 
 def laid_files() -> list[str]:

@@ -29,6 +29,7 @@ from .checks import (
     check_pc,
     check_scripts,
     check_threads,
+    check_told,
 )
 from .compilers import (
     PORTABLE_TARGETS,
@@ -48,6 +49,7 @@ EACH: dict[str, Check] = {
     "names": check_names,
     **{way: partial(check_cases, way) for way in WAYS},
     **{name: partial(check_counted, name) for name in COUNTED},
+    "told": check_told,
     "misuse": check_misuse,
     "memory": check_memory,
     "threads": check_threads,

@@ -24,6 +24,7 @@ from zaklimot_tools.report.places import SUITE
 
 from .checks import (
     COUNTED,
+    MISUSES,
     SOURCES,
     WRAPPED,
     check_cases,
@@ -31,6 +32,7 @@ from .checks import (
     check_examples,
     check_misuse,
     check_threads,
+    check_told,
     expect,
     names_in,
 )
@@ -103,10 +105,10 @@ def check_file(module: bytes) -> str:
 
 
 def _misuse(built: Built, *flags: str) -> None:
-    words = build(
-        built.own[0].c, built, [SOURCES / "misuse.c"], built.folder / "misuse.exe", *flags
-    )
-    expect("misuse", run([*words, FONTS]))
+    for name in MISUSES:
+        made = built.folder / f"{name}.exe"
+        words = build(built.own[0].c, built, [SOURCES / f"{name}.c"], made, *flags)
+        expect(name, run([*words, FONTS]))
 
 
 def check_compilers(maker: Maker) -> str:
@@ -208,6 +210,7 @@ HOST: dict[str, Check] = {
         name: _by(partial(check_counted, name), program.flags == SANITIZED)
         for name, program in COUNTED.items()
     },
+    "told": _by(check_told, True),
     "memory": check_memory,
     "threads": _by(check_threads),
     "examples": _by(check_examples),

@@ -36,7 +36,7 @@ PACKED = {
     SYS: (*(f"portable/zaklimot.{ending}" for ending in ("c", "h", "fnt")), "tests/header.rs"),
     SAFE: (
         *(f"examples/{name}.rs" for name in ("bench", "picture", "slices")),
-        *(f"tests/{name}.rs" for name in ("allocations", "card")),
+        *(f"tests/{name}.rs" for name in ("allocations", "card", "explained")),
     ),
 }
 # From this version on cargo packs a crate with another of the workspace that nobody has published.

@@ -6,6 +6,7 @@
 typedef uint8_t u8;
 typedef int8_t s8;
 typedef uint16_t u16;
+typedef int16_t s16;
 typedef uint32_t u32;
 typedef int32_t s32;
 typedef uint64_t u64;
@@ -113,13 +114,19 @@ NUMBER(64)
 #define memory_fill(at, value, len) ((void)memset(AT(at, len), (int)(value), (size_t)(len)))
 #if defined(__GNUC__)
 #define I32_CTZ(x) ((x) == 0 ? 32u : (u32)__builtin_ctz(x))
+#define I64_CTZ(x) ((x) == 0 ? 64u : (u64)__builtin_ctzll(x))
 #else
-static u32 I32_CTZ(u32 x)
+static u64 I64_CTZ(u64 x)
 {
-    u32 count = 0;
-    while (count < 32 && (x >> count & 1) == 0)
+    u64 count = 0;
+    while (count < 64 && (x >> count & 1) == 0)
         count++;
     return count;
+}
+
+static u32 I32_CTZ(u32 x)
+{
+    return x == 0 ? 32u : (u32)I64_CTZ(x);
 }
 #endif
 

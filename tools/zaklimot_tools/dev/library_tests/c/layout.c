@@ -108,3 +108,62 @@ LIES(zak_cell, attribute, 1);
 
 TAKES(zak_place, 2);
 LIES(zak_place, column, 1);
+
+TAKES(zak_reason, 32);
+LIES(zak_reason, kind, 4);
+LIES(zak_reason, numbers, 8);
+LIES(zak_reason, is_high, 28);
+
+TAKES(zak_dot_source, 38);
+LIES(zak_dot_source, address, 2);
+LIES(zak_dot_source, glyph_address, 4);
+LIES(zak_dot_source, is_display, 6);
+LIES(zak_dot_source, panning, 7);
+LIES(zak_dot_source, dot, 8);
+LIES(zak_dot_source, bytes, 9);
+LIES(zak_dot_source, is_text, 13);
+LIES(zak_dot_source, character, 14);
+LIES(zak_dot_source, attribute, 15);
+LIES(zak_dot_source, map, 16);
+LIES(zak_dot_source, glyph_row, 17);
+LIES(zak_dot_source, is_cursor, 18);
+LIES(zak_dot_source, is_blinked_away, 19);
+LIES(zak_dot_source, is_underlined, 20);
+LIES(zak_dot_source, is_glyph_dot, 21);
+LIES(zak_dot_source, is_foreground, 22);
+LIES(zak_dot_source, has_palette, 23);
+LIES(zak_dot_source, nibble, 24);
+LIES(zak_dot_source, palette_register, 25);
+LIES(zak_dot_source, palette_value, 26);
+LIES(zak_dot_source, is_colour_select_wide, 27);
+LIES(zak_dot_source, middle, 28);
+LIES(zak_dot_source, high, 29);
+LIES(zak_dot_source, is_palette_shown, 30);
+LIES(zak_dot_source, number, 31);
+LIES(zak_dot_source, mask, 32);
+LIES(zak_dot_source, entry, 33);
+LIES(zak_dot_source, is_screen_off, 34);
+LIES(zak_dot_source, colour, 35);
+
+TAKES(zak_write_stages, 24);
+LIES(zak_write_stages, offset, 2);
+LIES(zak_write_stages, write_mode, 4);
+LIES(zak_write_stages, rotated, 5);
+LIES(zak_write_stages, data, 6);
+LIES(zak_write_stages, combined, 10);
+LIES(zak_write_stages, mask, 14);
+LIES(zak_write_stages, planes, 15);
+LIES(zak_write_stages, before, 16);
+LIES(zak_write_stages, written, 20);
+
+TAKES(zak_read_stages, 12);
+LIES(zak_read_stages, offset, 2);
+LIES(zak_read_stages, loaded, 4);
+LIES(zak_read_stages, is_compare, 8);
+LIES(zak_read_stages, plane, 9);
+LIES(zak_read_stages, value, 10);
+
+TAKES(zak_mistake, 32);
+LIES(zak_mistake, start, 8);
+LIES(zak_mistake, length, 16);
+LIES(zak_mistake, kind, 24);

@@ -77,6 +77,8 @@ static zak_palette palette;
 static zak_cell cell;
 static uint8_t pixel;
 static zak_place cursor;
+static zak_mistake mistake;
+static bool are_dots_other;
 
 static zak_status call_int10(uint16_t ax, uint16_t cx)
 {
@@ -88,6 +90,17 @@ static zak_status do_cycles(void)
 {
     zak_regs regs = {0x0E41, 7, 0, 0};
     return zak_cycles(&card, &regs, none, 0, answer, sizeof answer, &len);
+}
+
+static zak_status do_explain_text(void)
+{
+    static const uint8_t text[] = {'f', 'r', 'a', 'm', 'e', '\n', 'f'};
+    return zak_explain_text(text, sizeof text, &mistake, answer, sizeof answer, &len);
+}
+
+static zak_status do_rebuild(void)
+{
+    return zak_rebuild(&card, report, sizeof report, &len, &are_dots_other);
 }
 
 static zak_status do_open(void) { return zak_open(&opened, fonts, sizeof fonts); }
@@ -157,6 +170,7 @@ static const struct job {
     {"zak_int10", do_dac_entries, 3, false},
     {"zak_frame_indexed", do_indexed, 0x13, false},
     {"zak_cycles", do_cycles, 3, false},
+    {"zak_rebuild", do_rebuild, 3, false},
     {"zak_show_regs", do_regs, 3, false},
     {"zak_show_beam", do_beam, 3, false},
     {"zak_show_latches", do_latches, 3, false},
@@ -170,6 +184,7 @@ static const struct job {
     {"zak_screen_cursor", do_cursor, 3, false},
     {"zak_run", do_run, 3, false},
     {"zak_assemble", do_assemble, 3, false},
+    {"zak_explain_text", do_explain_text, 3, false},
     {"zak_print", do_print, 3, false},
     {"zak_run_on", do_steps, 0x12, true},
 };
@@ -265,6 +280,8 @@ static void clear_answers(void)
     memset(&palette, UNTOUCHED, sizeof palette);
     memset(&cell, UNTOUCHED, sizeof cell);
     memset(&cursor, UNTOUCHED, sizeof cursor);
+    memset(&mistake, UNTOUCHED, sizeof mistake);
+    are_dots_other = true;
     pixel = UNTOUCHED;
     len = place = taken = 999;
 }
@@ -280,7 +297,9 @@ static bool are_untouched(const void *bytes, size_t count)
 
 static bool has_no_answer(void)
 {
-    return are_untouched(answer, sizeof answer) && are_untouched(report, sizeof report) &&
+    return are_untouched(&mistake.line, sizeof mistake.line) &&
+           are_untouched(&mistake.kind, sizeof mistake.kind) && are_dots_other &&
+           are_untouched(answer, sizeof answer) && are_untouched(report, sizeof report) &&
            are_untouched(&screen, sizeof screen) &&
            are_untouched(&palette, sizeof palette) && are_untouched(&cell, sizeof cell) &&
            are_untouched(&cursor, sizeof cursor) && are_untouched(&pixel, 1) && len == 999 &&
@@ -344,6 +363,24 @@ static void refuse_all(const struct job *job)
         wrong(job->name, "the card can't be closed");
 }
 
+/* How the card explains a refused step, a dot and cycles of memory, which takes no memory either. */
+static zak_status explanations(void)
+{
+    static const uint8_t script[] = {'V', 'G', 'A', 'S', 1, 0x0B, 1, 0x60, 0, 1};
+    zak_beam beam = {0, 0, 0, 0, 0, 0, 0, 0, 0};
+    zak_reason reason;
+    zak_dot_source source;
+    zak_write_stages written;
+    zak_read_stages read;
+    zak_status status = zak_explain_step(&card, script, sizeof script, 1, &reason, answer,
+                                         sizeof answer, &len, &place);
+    if (reason.kind != ZAK_WHY_NO_PORT)
+        wrong("zak_explain_step", "the reason is another");
+    status |= zak_explain_dot(&card, &beam, &source);
+    status |= zak_explain_put(&card, 0xA0000, 1, &written);
+    return status | zak_explain_get(&card, 0xA0000, &read);
+}
+
 /* The calls that take no memory. */
 static zak_status other_calls(void)
 {
@@ -405,7 +442,7 @@ int main(int argc, char **argv)
     if (call_int10(0x12, 0) || zak_frame(&card, &(zak_size){0, 0}, rgb, sizeof rgb))
         wrong("zak_int10", "mode 12 can't be set");
     allocations = 0;
-    zak_status status = other_calls();
+    zak_status status = other_calls() | explanations();
     if (status || allocations)
         wrong("the other calls", status ? "one fails" : "one takes memory");
     zak_close(&card);

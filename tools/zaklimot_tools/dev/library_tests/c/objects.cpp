@@ -326,6 +326,58 @@ static int spans(card &vga)
     return 0;
 }
 
+/* Why a step is refused, where a dot comes from, what cycles of memory do on the way. */
+static int explained(card &vga)
+{
+    zak_regs regs = {0x0012, 0, 0, 0};
+    vga.int10(regs);
+    const auto why = vga.explain_step(zaklimot::assemble("out 60 01"));
+    const std::vector<std::uint8_t> script = zaklimot::assemble("frame\nout 60 1\nint ax=4");
+    const auto port = vga.explain_step(script, 1), mode = vga.explain_step(script, 2);
+    HOLDS(!vga.explain_step(script) && port && mode && why && why->text == port->text);
+    HOLDS(port->status == ZAK_NOT_DECODED && port->kind == ZAK_WHY_NO_PORT && port->numbers[0] == 0x60);
+    HOLDS(port->text == "No part of the adapter decodes port 060." && !port->is_high);
+    HOLDS(mode->status == ZAK_BAD_MODE && mode->kind == ZAK_WHY_NO_SUCH_MODE && mode->numbers[0] == 4);
+    HOLDS(thrown([&] { vga.explain_step(script, 3); }) == ZAK_BAD_ARGUMENT);
+    HOLDS(thrown([&] { vga.explain_step({}); }) == ZAK_BAD_MAGIC);
+    vga.out_word(0x3C4, 0x0502);
+    const zak_write_stages put = vga.explain_put(0xA0001, 0x5A);
+    HOLDS(put.offset == 1 && put.planes == 5 && put.before[0] == 0 && put.written[2] == 0x5A);
+    HOLDS(vga.get(0xA0001) == 0);
+    vga.put(0xA0001, 0x5A);
+    const zak_read_stages get = vga.explain_get(0xA0001);
+    HOLDS(get.value == 0x5A && get.loaded[1] == 0 && get.loaded[2] == 0x5A);
+    HOLDS(thrown([&] { vga.explain_put(0xC0000, 1); }) == ZAK_NOT_DECODED);
+    HOLDS(thrown([&] { vga.explain_get(0xC0000); }) == ZAK_NOT_DECODED);
+    zak_beam beam = vga.beam();
+    const zak_dot_source here = vga.explain_dot();
+    const zak_dot_source same = vga.explain_dot(beam);
+    HOLDS(std::memcmp(&here, &same, sizeof here) == 0);
+    beam.dot = 9;
+    HOLDS(here.has_palette && !here.is_text && thrown([&] { vga.explain_dot(beam); }) == ZAK_BAD_ARGUMENT);
+    return 0;
+}
+
+/* A script that leads from power-on to a card's state. */
+static int rebuilds(card &vga, zaklimot::bytes fonts)
+{
+    zak_regs regs = {0x0013, 0, 0, 0};
+    vga.int10(regs);
+    std::vector<std::uint8_t> screen(64000);
+    for (std::size_t at = 0; at < screen.size(); at++)
+        screen[at] = static_cast<std::uint8_t>(at * at / 7);
+    vga.put_bytes(0xA0000, screen);
+    vga.skip_frame();
+    const zaklimot::rebuilt made = vga.rebuild();
+    card other(fonts);
+    std::vector<std::uint8_t> report(std::size_t(1) << 24);
+    std::size_t len = 0, taken = 0, place = 0;
+    HOLDS(zak_run_on(other.raw(), made.script.data(), made.script.size(), 0, 0xFFFFFFFF, report.data(),
+                     report.size(), &len, &taken, &place) == ZAK_OK);
+    HOLDS(!made.are_dots_other && other.save() == vga.save());
+    return 0;
+}
+
 static int scripts(zaklimot::bytes fonts)
 {
     std::vector<std::uint8_t> script = zaklimot::assemble("int ax=3\nin 3CC");
@@ -338,6 +390,10 @@ static int scripts(zaklimot::bytes fonts)
         is_thrown = error.status() == ZAK_BAD_LINE && error.place() == 2;
     }
     HOLDS(is_thrown);
+    const auto mistake = zaklimot::explain_text("frame\nmove 3C4");
+    HOLDS(mistake && mistake->line == 2 && mistake->start == 0 && mistake->length == 4);
+    HOLDS(mistake->kind == ZAK_MISTAKE_STEP && !mistake->sentence.empty() && mistake->sentence.back() != '.');
+    HOLDS(!zaklimot::explain_text("frame"));
     return 0;
 }
 
@@ -352,7 +408,7 @@ int main(int argc, char **argv)
     card written(fonts);
     HOLDS(written.save() == first.save());
     if (draw(first) || scripts(glyphs) || example(glyphs) || transfer(another) || spans(written) ||
-        snapshots(another, written) || emulate(glyphs))
+        snapshots(another, written) || emulate(glyphs) || explained(another) || rebuilds(written, glyphs))
         return 1;
     std::vector<std::uint8_t> state = first.save();
     card second(std::move(first));
