@@ -7,7 +7,7 @@ from typing import Iterator
 
 from zaklimot.format import Step, parse_line
 from zaklimot_tools.explain.banks import Bank, Banks
-from zaklimot_tools.explain.registers import Registers
+from zaklimot_tools.explain.clocks import Registers
 
 from .tools import run_texts
 

@@ -50,6 +50,7 @@ from .tools import (
     refused,
     run_tool,
     stream,
+    want_library,
 )
 
 
@@ -147,6 +148,7 @@ class Numbers(unittest.TestCase):
                 self.assertLessEqual(count_in(text), 2)
 
     def test_why_such_a_line_is_no_step(self) -> None:
+        want_library()
         for line, told in (
             (f"repeat {MANY}", "N is from 1 to 65535"),
             (f"advance {MANY}", "DOTS is from 0 to 4294967295"),
@@ -157,7 +159,7 @@ class Numbers(unittest.TestCase):
             (f"repeat {'A' * 5000}", "N is a decimal number"),
             ("repeat 1A", "N is decimal, and not hexadecimal: write 26"),
         ):
-            found = mistake_in(line)
+            found = mistake_in(line.encode("utf-8"))
             assert found is not None
             self.assertEqual(found.reason, told, line[:20])
 

@@ -15,7 +15,7 @@ from unittest import mock
 
 from zaklimot.format import Picture, Report
 from zaklimot_tools.core.progress import Progress
-from zaklimot_tools.explain.registers import Registers
+from zaklimot_tools.explain.clocks import Registers
 from zaklimot_tools.trace import command
 from zaklimot_tools.trace.comparing import Recording, ShownPicture, _compare_pictures, _drawn
 from zaklimot_tools.trace.step import ADVANCE, TraceStep

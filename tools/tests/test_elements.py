@@ -14,7 +14,8 @@ from xml.etree import ElementTree
 
 from zaklimot.format import Step
 from zaklimot_tools.script.words import FONTS
-from zaklimot_tools.steps import asking, library
+from zaklimot_tools.script import library
+from zaklimot_tools.steps import asking
 from zaklimot_tools.steps.adapter import SteppedCard
 from zaklimot_tools.steps.library import load
 from zaklimot_tools.steps.machines import _stem

@@ -28,6 +28,7 @@ from zaklimot.format import (
     decode,
     encode,
     is_answer_to,
+    items_in,
     parse_text,
     print_text,
     read,
@@ -292,6 +293,11 @@ class Scripts(unittest.TestCase):
         self.assertEqual(print_text(script), printed)
         self.assertEqual(parse_text(printed), script)
         self.assertEqual(read(b""), Script())
+        # Items come before a fault that stands after them.
+        self.assertEqual(tuple(items_in(data)), script.items)
+        cut = items_in(data[:-1])
+        self.assertEqual([next(cut) for _ in range(3)], list(script.items[:3]))
+        self.assertEqual(fault_of(b"", lambda _: next(cut)), f"F5 Truncated({len(data) - 5})")
 
     def test_what_the_page_shows_of_faults(self) -> None:
         rows = re.findall(r"^\| .*\| `([0-9A-F ]+)` \| `(F\d+ .*)` \|$", page("SCRIPT.md"), re.M)

@@ -13,7 +13,7 @@ import zlib
 from typing import Optional
 
 from zaklimot.format import Picture, parse_text
-from zaklimot_tools.explain.registers import USUAL, Registers
+from zaklimot_tools.explain.clocks import USUAL, Registers
 from zaklimot_tools.images.png import MARK, Shape, chunk, write_png
 from zaklimot_tools.images.reading import image_of
 

@@ -190,8 +190,8 @@ class Made(unittest.TestCase):
 
     def test_a_file_that_is_too_long(self) -> None:
         more = "  w2c_i0 = 65541u;\n"
-        with self.assertRaisesRegex(Trouble, "3,000,000 are the most"):
-            one_file(WRITTEN.replace(more, more * 200_000))
+        with self.assertRaisesRegex(Trouble, "3,500,000 are the most"):
+            one_file(WRITTEN.replace(more, more * 250_000))
 
     def test_another_file_is_told(self) -> None:
         written = mock.patch.object(checks, "written_by_wasm2c", lambda module: WRITTEN)

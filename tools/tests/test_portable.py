@@ -150,7 +150,7 @@ class Compiled(Cache):
         given = {"compiler": self.environment["CC"], "told": "the program vga", "kind": "program"}
         self.assertEqual(said, portable.COMPILES.format(**given, folder=self.cache))
         self.assertRegex(
-            said, r"^\S+ compiles .* in about 20 seconds, and once: .* is tested, not proved\n$"
+            said, r"^\S+ compiles .* in about 30 seconds, and once: .* is tested, not proved\n$"
         )
         self.assertEqual(self.found(), (path, ""))
         self.assertEqual(

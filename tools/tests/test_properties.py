@@ -129,8 +129,10 @@ class Properties(unittest.TestCase):
     @tried
     @given(lines)
     def test_mistakes_lie_in_their_line(self, line: str) -> None:
-        mistake = mistake_in(line)
+        data = data_of(line)
+        mistake = mistake_in(data)
         if mistake is not None:
+            line = line.split("\n")[mistake.line - 1]
             self.assertTrue(0 <= mistake.at <= len(line))
             self.assertLess(len(mistake.reason), MOST_REASON)
             self.assertTrue(all(len(marked) < 110 for marked in marked_lines(line, mistake)))

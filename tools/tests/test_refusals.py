@@ -1,21 +1,24 @@
-"""Why steps are refused, why lines are no steps and texts no scripts: in the page's words, for the
-same cases."""
+"""Why steps are refused, why lines are no steps and texts no scripts: in the adapter's words, for
+the cases of the page."""
 
 import json
 import re
 import unittest
 from pathlib import Path
-from typing import Callable, Sequence
+from typing import Callable, Optional, Sequence
+from unittest import mock
 
-from zaklimot.format import REFUSALS, Answer, Step
+from zaklimot.format import REFUSALS, Answer, Step, refusal_of
 from zaklimot_tools import TOP
+from zaklimot_tools.core.trouble import Trouble
+from zaklimot_tools.explain import mistakes, reasons
+from zaklimot_tools.explain.clocks import MODES, Registers
 from zaklimot_tools.explain.faults import explained
 from zaklimot_tools.explain.mistakes import Mistake, marked_lines, mistake_in
-from zaklimot_tools.explain.registers import MODES, OF_CALLS, Registers, why_refused
-from zaklimot_tools.explain.wordings import WORDINGS
+from zaklimot_tools.explain.reasons import Reasons, bytes_of
 from zaklimot_tools.picture.mode import MODES as DRAWN
 
-from .tools import Folder, hold, run_texts
+from .tools import Folder, hold, run_texts, want_library
 
 
 HERE = Path(__file__).parent
@@ -89,38 +92,51 @@ TEXTS = [(bytes.fromhex(row["hex"]), row["reason"]) for row in TABLE["texts"]]
 DONE = Answer(1, 1, "ok")
 
 
-def state_behind(lines: Sequence[str]) -> Registers:
-    """The state that steps leave."""
-    state = Registers()
+def reasons_behind(lines: Sequence[str]) -> Reasons:
+    """What tells why steps are refused, after some that were done."""
+    behind = Reasons()
     for line in lines:
-        state.why_of(line, DONE)
-    return state
+        behind.why_of(line, DONE)
+    return behind
+
+
+def refused_as(number: int) -> Answer:
+    """The answer of a step that is refused with a number."""
+    return Answer(1, 1, refusal_of(number))
+
+
+def mistake_of(line: str) -> Optional[Mistake]:
+    """What is wrong in a text of one line."""
+    return mistake_in(line.encode("utf-8", "surrogateescape"))
 
 
 class Refusals(unittest.TestCase):
-    def test_each_is_told_as_the_page_tells_it(self) -> None:
+    def setUp(self) -> None:
+        want_library()
+
+    def test_each_is_told_as_the_adapter_tells_it(self) -> None:
         for case in CASES:
             with self.subTest(case["text"]):
                 *before, last = case["text"].split("\n")
-                number = int(case["answer"][1:].split()[0])
-                self.assertEqual(why_refused(last, number, state_behind(before)), case["told"])
+                answer = Answer(1, 1, case["answer"])
+                self.assertEqual(reasons_behind(before).why_of(last, answer), case["told"])
 
     def test_there_is_one_of_each(self) -> None:
         self.assertEqual(
             {case["answer"] for case in CASES},
             {f"E{number} {name}" for number, name in REFUSALS.items()},
         )
-        self.assertEqual({1, 2, 12} | set(OF_CALLS), set(REFUSALS))
 
     def test_the_modes_are_named(self) -> None:
-        named = re.findall(r"\b[0-9A-F]{2}\b", WORDINGS["refusals"]["5"])
+        told = Reasons().why_of("int ax=99", refused_as(5))
+        named = re.findall(r"\b[0-9A-F]{2}\b", told.partition("The modes are ")[2])
         self.assertEqual(named, [f"{mode:02X}" for mode in MODES])
 
     def test_what_the_adapter_does_not_refuse_so(self) -> None:
-        behind = state_behind(["int ax=3", "out 3C0 1F", "in 3DA", "in 3DA", "out 3C0 5"])
+        behind = reasons_behind(["int ax=3", "out 3C0 1F", "in 3DA", "in 3DA", "out 3C0 5"])
         hold(
             self,
-            lambda words, number: why_refused(words, number, behind),
+            lambda words, number: behind.why_of(words, refused_as(number)),
             [
                 *(
                     (words, at, "")
@@ -129,11 +145,13 @@ class Refusals(unittest.TestCase):
                 ),
                 ("out 3C0 1F", 1, ""),
                 ("in 3C1", 2, ""),
+                # A refusal with another number is another program's.
+                ("in 60", 2, ""),
             ],
         )
         # The same step is refused for another reason once the state is another.
         words = "in 3B4"
-        answer = Answer(1, 1, "E1 NotDecoded")
+        answer = refused_as(1)
         told = [
             behind.why_of(words, answer),
             behind.why_of("out 3C2 66", DONE),
@@ -148,24 +166,47 @@ class Refusals(unittest.TestCase):
         rows: tuple[tuple[str, str, int, str], ...] = (
             # An index has fewer bits than a byte.
             ("", "outw 3CE 2015", 2, f"{shift}, so it can't be 1."),
-            ("", "outw 3CE 0019", 2, ends("graphics controller", "09", 8)),
-            ("", "outw 3C4 010D", 2, ends("sequencer", "05", 4)),
+            ("", "outw 3CE 0019", 2, ends("graphics controller", "09", "08")),
+            ("", "outw 3C4 010D", 2, ends("sequencer", "05", "04")),
             ("", "outw 3B4 2034", 2, f"{count}, so it can't be 1."),
             ("", "OUTW 3b4 0099", 2, ends("CRT controller", "19", "18")),
             # Bit 7 of a mode asks to keep the memory, and is no part of its number.
             ("", "int ax=0084", 5, "04"),
-            ("int ax=0087", "int ax=0C01", 6, "Mode 07 is text, and this wants graphics."),
+            ("int ax=0087", "int ax=0C01", 6, "Mode 07 is text, and this call wants graphics."),
             ("INT AX=0092", "int ax=1112", 6, "Mode 12 "),
-            ("int ax=0007", "int ax=0509", 7, "Mode 07 has no page 09."),
+            ("int ax=0007", "int ax=0509", 7, "There is no page 09: "),
         )
         for before, words, number, told in rows:
             with self.subTest(words):
-                why = why_refused(words, number, state_behind(before.splitlines()))
+                why = reasons_behind(before.splitlines()).why_of(words, refused_as(number))
                 self.assertTrue(why == told if told.endswith(".") else told in why, why)
         ran = run_texts({words: f"{before}\n{words}\n".encode() for before, words, *_ in rows})
         for before, words, number, _ in rows:
             answer = ran[words].report.decode("ascii").splitlines()[-1].split()[1]
             self.assertEqual(answer, f"E{number}", words)
+
+    def test_steps_before_a_refusal_are_kept(self) -> None:
+        """However many they are."""
+        with mock.patch.object(reasons, "MOST_TAKEN", 50):
+            behind = reasons_behind(["int ax=3", *["outw 3CE 0506", "out 3CE 5"] * 40])
+            for _ in "12":
+                told = behind.why_of("get B8000", refused_as(1))
+                self.assertTrue(told.startswith("Memory map is 1 "), told)
+                self.assertEqual(behind.why_of("out 3CF 0", DONE), "")
+
+    def test_a_run_without_a_refusal_needs_no_library(self) -> None:
+        lacking = mock.Mock(side_effect=Trouble("there is no compiler\nand more"))
+        with mock.patch.object(reasons, "use_library", lacking):
+            behind = reasons_behind(["int ax=3", "out 3CE 5"])
+            lacking.assert_not_called()
+            for _ in "12":
+                told = behind.why_of("in 60", refused_as(1))
+                self.assertEqual(told, "The reason is not told: there is no compiler.")
+            lacking.assert_called_once()
+
+    def test_bytes_of_a_step(self) -> None:
+        self.assertEqual(bytes_of("OUT 3c4 2").hex(), "01c40302")
+        self.assertEqual((bytes_of("move 1"), bytes_of("")), (b"", b""))
 
     def test_the_program_refuses_each(self) -> None:
         ran = run_texts({case["text"]: case["text"].encode() + b"\n" for case in CASES})
@@ -175,10 +216,13 @@ class Refusals(unittest.TestCase):
 
 
 class Mistakes(unittest.TestCase):
+    def setUp(self) -> None:
+        want_library()
+
     def test_each_is_told_below_its_word_and_good_lines_have_none(self) -> None:
         for line, part, said in LINES:
             with self.subTest(line[:60]):
-                mistake = mistake_in(line)
+                mistake = mistake_of(line)
                 assert mistake is not None
                 self.assertEqual(mistake.reason, said)
                 if part:
@@ -186,17 +230,17 @@ class Mistakes(unittest.TestCase):
                 else:
                     self.assertEqual(mistake.at, len(line.partition(";")[0].rstrip()))
         self.assertGreaterEqual(len(LINES), 60)
-        hold(self, mistake_in, ((line, None) for line in TABLE["good"]))
+        hold(self, mistake_of, ((line, None) for line in TABLE["good"]))
 
     def test_each_is_told_at_its_bounds(self) -> None:
         for line, part, said in BOUNDS:
             with self.subTest(line[:60]):
-                mistake = mistake_in(line)
+                mistake = mistake_of(line)
                 assert mistake is not None
                 reason = mistake.reason[: len(said)] if said.endswith(" ") else mistake.reason
                 self.assertEqual(reason, said)
                 self.assertEqual(line[mistake.at : mistake.at + mistake.width], part)
-        hold(self, mistake_in, ((line, None) for line in GOOD))
+        hold(self, mistake_of, ((line, None) for line in GOOD))
         ran = run_texts(
             {line: line.encode() + b"\n" for line in (*GOOD, *(row[0] for row in BOUNDS))}
         )
@@ -209,7 +253,7 @@ class Mistakes(unittest.TestCase):
         line = "".join(f"{at:4} " for at in range(61))
         hold(
             self,
-            lambda line, at, width: list(marked_lines(line, Mistake(at, width, ""))),
+            lambda line, at, width: list(marked_lines(line, Mistake(1, at, width, ""))),
             (
                 (line[:100], 98, 2, [line[:100].rstrip(), 98 * " " + "^^"]),
                 (line[:101], 3, 1, [line[:100].rstrip() + "..", "   ^"]),
@@ -219,6 +263,8 @@ class Mistakes(unittest.TestCase):
                 ("x" * 300, 0, 300, ["x" * 100 + "..", "^" * 100]),
                 ("x" * 300, 150, 150, [".." + "x" * 100 + "..", 52 * " " + 50 * "^"]),
                 ("\tout\t0x3C4", 5, 5, [" out 0x3C4", "     ^^^^^"]),
+                # A line that is wrong as a whole has no mark.
+                ("end ; of nothing", 0, 0, ["end ; of nothing"]),
             ),
         )
 
@@ -346,17 +392,30 @@ FAULTS_TOLD = (
     ("F1 FontSize", "f", f"the font file has 2,304 {TOLD_LENGTH}", b"", bytes(2304)),
     ("F1 FontSize", "f", f"the font file has 16,777,216 {TOLD_LENGTH}", b"", bytes(16_777_216)),
     # What is too long.
-    ("F6 TooLong", "s", f"the file has more bytes, and {TOLD_MOST}", bytes(16_777_217)),
+    ("F6 TooLong", "s", f"the text has more bytes, and {TOLD_MOST}", bytes(16_777_217)),
+    (
+        "F6 TooLong",
+        "s",
+        f"the file has more bytes, and {TOLD_MOST}",
+        b"VGAS".ljust(16_777_217),
+    ),
     (
         "F6 TooLong",
         "s",
         f"the steps of the text have more bytes, and {TOLD_MOST}",
-        b"int\n",
+        b"int\n" * 1_600_000,
     ),
+    # What the library knows nothing of.
+    ("F6 TooLong", "s", "refused, and I can't say why", b"int\n"),
+    ("F7 BadLine(2)", "s:2", "refused, and I can't say why\n  frame", b"move\nframe\n"),
 )
 
 
 class Faults(Folder):
+    def setUp(self) -> None:
+        super().setUp()
+        want_library()
+
     def told(self, fault: str, data: bytes, fonts: bytes = bytes(9728)) -> str:
         """What is told of a fault of these files."""
         return explained("vga: " + fault, self.write("s", data), self.write("f", fonts))
@@ -388,6 +447,13 @@ class Faults(Folder):
             fault = f"F7 BadLine({number})"
             front = f"{self.folder / 's'}:{number}: {fault}: {told}"
             self.assertEqual(self.told(fault, data)[: len(front)], front)
+
+    def test_without_a_library(self) -> None:
+        lacking = mock.Mock(side_effect=Trouble("there is no compiler\nand more"))
+        with mock.patch.object(mistakes, "use_library", lacking):
+            told = self.told("F7 BadLine(1)", b"move\n")
+        reason = "F7 BadLine(1): the reason is not told: there is no compiler\n  move"
+        self.assertEqual(told, f"{self.folder / 's'}:1: {reason}")
 
     def test_files_that_cannot_be_read(self) -> None:
         script = self.folder / "s"

@@ -6,7 +6,7 @@ from __future__ import annotations
 import contextlib
 import json
 from pathlib import Path
-from typing import Any, Iterator
+from typing import Any
 from unittest import mock
 
 from zaklimot.format import Block, Step, decode, encoded
@@ -15,11 +15,9 @@ from zaklimot_tools.script.words import FONTS
 from zaklimot_tools.trace import converting, replaying
 from zaklimot_tools.trace.note import Note, kept_parts, note_of, told_of_beam
 from zaklimot_tools.trace.parts import Parts
-from zaklimot_tools.trace.rebuilding import rebuilt_as_told
+from zaklimot_tools.trace.rebuilding import steps_behind
 from zaklimot_tools.trace.replaying import Replay, replay
-from zaklimot_tools.trace.state import State, rebuilt
 from zaklimot_tools.trace.step import ADVANCE, GET, IN, OUT, TraceStep
-from zaklimot_tools.trace.told import Told
 
 from .tools import PROGRAM, Folder, hold, refused, run_program, want_program
 from .tracing import qemu
@@ -121,11 +119,10 @@ class OfThePage(Long):
     def refusal(self, *more: TraceStep) -> str:
         """What is told where these steps stand behind those that rebuild the state."""
 
-        def wrong(told: Told) -> Iterator[TraceStep]:
-            yield from rebuilt_as_told(told)
-            yield from more
+        def wrong(script: bytes, fonts: str) -> list[TraceStep]:
+            return [*steps_behind(script, fonts), *more]
 
-        with mock.patch.object(replaying, "rebuilt_as_told", wrong):
+        with mock.patch.object(replaying, "steps_behind", wrong):
             return refused(self.replayed, True)
 
     def test_a_state_that_is_not_rebuilt(self) -> None:
@@ -146,7 +143,7 @@ class OfThePage(Long):
 
 
 class OfQemu(Long):
-    """Recordings of qemu, whose state is followed by a model."""
+    """Recordings of qemu, in which no time passes."""
 
     def setUp(self) -> None:
         super().setUp()
@@ -171,10 +168,10 @@ class OfQemu(Long):
         self.assertEqual(told, f"{self.recorded}/report-2.txt: {wanted}")
 
     def test_steps_that_are_refused_rebuild_no_state(self) -> None:
-        def wrong(state: State) -> list[TraceStep]:
-            return [*rebuilt(state), TraceStep(IN, 0x3C7)]
+        def wrong(script: bytes, fonts: str) -> list[TraceStep]:
+            return [*steps_behind(script, fonts), TraceStep(IN, 0x3C7)]
 
-        with mock.patch.object(replaying, "rebuilt", wrong):
+        with mock.patch.object(replaying, "steps_behind", wrong):
             told = refused(self.replayed, False, 3000).splitlines()
         front = f"{self.recorded}/report-2.txt: the state before its first cycle isn't rebuilt:"
         self.assertEqual(told[0], front)

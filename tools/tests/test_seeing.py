@@ -11,14 +11,14 @@ import unittest
 from pathlib import Path
 from unittest import mock
 
-from zaklimot.format import Answer, Step
+from zaklimot.format import HEADERS, Answer, Step
 from zaklimot_tools.core.progress import Progress
 from zaklimot_tools.script.words import FONTS
 from zaklimot_tools.trace import walking
 from zaklimot_tools.trace.cells import cells_of, code_page, entry_of, look_of, text_of
 from zaklimot_tools.trace.colourfiles import starts_of_pages
 from zaklimot_tools.trace.finding import Finder
-from zaklimot_tools.trace.rebuilding import rebuilt_as_told
+from zaklimot_tools.trace.rebuilding import steps_behind
 from zaklimot_tools.trace.step import IN, TraceStep
 from zaklimot_tools.trace.told import Told, state_asked
 from zaklimot_tools.trace.trace import SCREEN, Call
@@ -180,7 +180,7 @@ class Text(Seen):
 
 
 class Walked(Folder):
-    """Parts of a walk rebuild what was told."""
+    """Parts of a walk rebuild where it was."""
 
     def setUp(self) -> None:
         super().setUp()
@@ -191,7 +191,10 @@ class Walked(Folder):
         """What is told after steps."""
         return self.walk.state(steps)
 
-    def assert_alike(self, one: Told, other: Told) -> None:
+    def hold_rebuilt(self, *steps: TraceStep) -> None:
+        """Holds what is told after steps to what is told after those that rebuild the state."""
+        script = HEADERS[1] + b"".join(step.data() for step in steps)
+        one, other = self.told(*steps), self.told(*steps_behind(script, str(FONTS)))
         self.assertEqual(one.shown, other.shown)
         self.assertEqual(one.state.memory.words, other.state.memory.words)
         self.assertEqual(vars(one.state.dac), vars(other.state.dac))
@@ -209,11 +212,9 @@ class Walked(Folder):
             [(0x0013, 0, 0, 0), (0x0083, 0, 0, 0)],
         ):
             with self.subTest(calls):
-                told = self.told(*(call(*one) for one in calls), TraceStep(11), TraceStep(11))
-                self.assert_alike(told, self.told(*rebuilt_as_told(told)))
+                self.hold_rebuilt(*(call(*one) for one in calls), TraceStep(11), TraceStep(11))
         ports = [TraceStep(1, 0x3C2, 0x63), TraceStep(2, 0x3C4, 0x0604), TraceStep(5, 0xA0007, 9)]
-        told = self.told(*ports)
-        self.assert_alike(told, self.told(*rebuilt_as_told(told)))
+        self.hold_rebuilt(*ports)
 
     def test_a_walk_of_several_scripts_answers_as_one(self) -> None:
         items: list[Item[int]] = [call(0x0003, 0, 0, 0)]

@@ -1,19 +1,37 @@
-"""The state that cycles leave is the program's; and scripts that begin with one end as the whole
-does."""
+"""The state that cycles leave is the program's; and scripts that begin with one, which the library
+rebuilds, end as the whole does."""
 
 import unittest
 from functools import partial
 from itertools import product
 from random import Random
 from typing import Iterable, Iterator
+from unittest import mock
 
-from zaklimot.format import Picture
+import zaklimot
+from zaklimot.format import HEADERS, Block, Picture, Script, Step, encode
 from zaklimot_tools.explain.banks import FrameShape
 from zaklimot_tools.report.report import Report
-from zaklimot_tools.trace.state import Beam, BeamPlace, State, rebuilt
-from zaklimot_tools.trace.step import ADVANCE, FRAME, OUT, OUTW, PUTW, READS, WORDS, TraceStep
+from zaklimot_tools.script.words import FONTS
+from zaklimot_tools.trace import rebuilding
+from zaklimot_tools.trace.rebuilding import Follower, steps_behind
+from zaklimot_tools.trace.state import Beam, BeamPlace, State
+from zaklimot_tools.trace.step import (
+    ADVANCE,
+    FRAME,
+    GET,
+    INT,
+    OUT,
+    OUTW,
+    PUT,
+    PUTW,
+    READS,
+    WORDS,
+    TraceStep,
+)
+from zaklimot_tools.trace.trace import Call
 
-from .tools import hold, refused, run_texts, stream, takes_long
+from .tools import hold, refused, run_texts, stream, takes_long, want_library
 from .tracing import steps_listed
 
 # Steps that enable memory, in planar order with all planes open and no bits masked.
@@ -67,13 +85,6 @@ PORTS = (
 PLACES = (0xA0000, 0xA0000, 0xA0000, 0xAFFF0, 0xB0000, 0xB7FF0, 0xB8000, 0xBFFF0)
 # Registers of the CRT controller that make frames large: of these the low bits alone are written.
 LARGE = {0x01: 0x07, 0x06: 0x1F, 0x07: 0x3F, 0x12: 0x1F, 0x09: 0x9F}
-
-
-def state_of(steps: Iterable[TraceStep]) -> State:
-    state = State()
-    for step in steps:
-        state.take(step)
-    return state
 
 
 def hexed(numbers: Iterable[int]) -> str:
@@ -188,7 +199,7 @@ class Beams(unittest.TestCase):
         beam = Beam()
         beam.frame = 31
         beam.place = BeamPlace(*place)
-        beam.advance(dots, self.SHAPE, [0] * 25)
+        beam.advance(dots, self.SHAPE)
         return beam.frame, beam.place
 
     def test_places_after_some_dots(self) -> None:
@@ -241,44 +252,88 @@ class Cuts(unittest.TestCase):
         told = refused(partial(steps_listed, noise(1, 1), first=2))
         self.assertEqual(told, "trace: it has 1 cycle, and none from 2 on becomes a step")
 
-    def test_what_the_frame_under_way_has_taken_stays(self) -> None:
-        state = state_of(
-            [TraceStep(OUTW, 0x3B4, 0x120C), TraceStep(ADVANCE, 1), TraceStep(OUTW, 0x3B4, 0x340C)]
-        )
-        self.assertEqual((state.beam.taken[0x0C], state.crtc.registers[0x0C]), (0x12, 0x34))
-        self.assertEqual(vars(state_of(rebuilt(state)).beam), vars(state.beam))
-        self.assertEqual(state.beam.place, (0, 0, 1))
-        state = state_of(
-            [
-                TraceStep(OUTW, 0x3B4, 0x120C),
-                TraceStep(ADVANCE, 90),
-                TraceStep(OUTW, 0x3B4, 0x340C),
-                TraceStep(ADVANCE, 91),
-            ]
-        )
-        self.assertEqual((state.beam.frame, state.beam.taken[0x0C]), (2, 0x34))
-        # A frame that begins amid an advance takes what is written by then.
-        state = state_of(
-            [
-                TraceStep(ADVANCE, 91),
-                TraceStep(OUTW, 0x3B4, 0x560C),
-                TraceStep(ADVANCE, 90),
-                TraceStep(OUTW, 0x3B4, 0x780C),
-            ]
-        )
-        self.assertEqual((state.beam.frame, state.beam.taken[0x0C]), (2, 0x56))
 
-    def test_after_the_last_entry_of_the_dac_comes_the_first(self) -> None:
-        last = [TraceStep(OUT, 0x3C8, 0xFF), *(TraceStep(OUT, 0x3C9, one) for one in (1, 2, 3))]
-        state = state_of(last)
-        self.assertEqual(vars(state_of(rebuilt(state)).dac), vars(state.dac))
-        state = state_of([*last, *(TraceStep(OUT, 0x3C9, one) for one in (4, 5, 6))])
-        self.assertEqual(state.dac.components, [4, 5, 6] + [0] * 762 + [1, 2, 3])
-        self.assertEqual(state.dac.index, 1)
+class Rebuilding(unittest.TestCase):
+    """A card follows steps, and others rebuild its state."""
+
+    def setUp(self) -> None:
+        want_library()
+
+    def card(self, steps: Iterable[TraceStep]) -> zaklimot.Card:
+        """A card that has taken steps."""
+        card = zaklimot.Card()
+        self.addCleanup(card.__exit__)
+        card.run_on(HEADERS[1] + b"".join(step.data() for step in steps))
+        return card
+
+    def hold_rebuilt(self, *steps: TraceStep) -> list[TraceStep]:
+        """Holds the state that is rebuilt behind steps to that behind themselves; the steps."""
+        follower = Follower()
+        for step in steps:
+            if step.opcode == FRAME:
+                follower.end_frame()
+            else:
+                follower.take(step.data())
+        rebuilt = follower.rebuilt()
+        one, other = self.card(steps), self.card(rebuilt)
+        for part in ("registers", "palette", "latches", "beam", "bios_data"):
+            self.assertEqual(getattr(one, part)(), getattr(other, part)(), part)
+        for plane in range(4):
+            self.assertEqual(one.plane(plane), other.plane(plane))
+        return rebuilt
+
+    def test_what_the_frame_under_way_has_taken_stays(self) -> None:
+        self.hold_rebuilt(
+            TraceStep(OUTW, 0x3B4, 0x120C), TraceStep(ADVANCE, 1), TraceStep(OUTW, 0x3B4, 0x340C)
+        )
+        # A frame that begins amid an advance takes what is written by then.
+        self.hold_rebuilt(
+            TraceStep(ADVANCE, 91),
+            TraceStep(OUTW, 0x3B4, 0x560C),
+            TraceStep(ADVANCE, 90),
+            TraceStep(OUTW, 0x3B4, 0x780C),
+        )
+
+    def test_frames_and_calls(self) -> None:
+        shown = Call((0x0003, 0, 0, 0)), Call((0x0E41, 7, 0, 0)), Call((0x1301, 7, 2, 0), b"AB")
+        calls = [TraceStep(INT, call=call) for call in shown]
+        rebuilt = self.hold_rebuilt(*calls, TraceStep(FRAME), TraceStep(FRAME), *calls[1:])
+        self.assertTrue(any(step.opcode == INT for step in rebuilt))
+
+    def test_what_is_read(self) -> None:
+        latched = [TraceStep(PUT, 0xA0000, 0x5A), TraceStep(GET, 0xA0000)]
+        rebuilt = self.hold_rebuilt(*PLANAR, *latched, TraceStep(PUT, 0xA0000, 0))
+        with zaklimot.Card() as card:
+            for step in rebuilt:
+                (answer,) = card.run_on(HEADERS[1] + step.data(), 0, 1)
+                self.assertEqual(answer.value, step.value if step.opcode in READS else None)
+        self.assertTrue(any(step.opcode in READS for step in rebuilt))
 
     def test_empty_memory_takes_no_steps(self) -> None:
-        self.assertEqual(sum(step.opcode == PUTW for step in rebuilt(state_of(PLANAR))), 0)
+        empty = self.hold_rebuilt(*PLANAR)
+        self.assertEqual(sum(step.opcode == PUTW for step in empty), 0)
         filled = [TraceStep(PUTW, 0xA0000 + at, 0x5555) for at in range(0, 1024, 2)]
-        self.assertEqual(
-            [step for step in rebuilt(state_of([*PLANAR, *filled])) if step.opcode == PUTW], filled
-        )
+        rebuilt = self.hold_rebuilt(*PLANAR, *filled)
+        self.assertEqual(sum(step.opcode == PUTW for step in rebuilt), 512)
+
+    def test_many_steps_are_taken_at_a_time(self) -> None:
+        steps = [TraceStep(OUTW, 0x3C4, at % 16 << 8 | 2) for at in range(100)]
+        with mock.patch.object(rebuilding, "MOST_STEPS", 7):
+            self.hold_rebuilt(*steps)
+        with mock.patch.object(rebuilding, "MOST_TAKEN", 9):
+            self.hold_rebuilt(*steps)
+
+    def test_a_script_with_blocks(self) -> None:
+        put, frame = Step("put", (0xA0000, 7)), Step("frame")
+        blocks = (Block(3, (put,)), Block(2, (put, frame)), Step("int", (0x13, 0, 0, 0)), frame)
+        script = encode(Script((*blocks, Block(5, (Step("advance", (100,)),)), put), 2))
+        with zaklimot.Card() as card, zaklimot.Card() as other:
+            card.run_on(script)
+            rebuilt = steps_behind(script, str(FONTS))
+            other.run_on(HEADERS[1] + b"".join(step.data() for step in rebuilt))
+            self.assertEqual((other.beam(), other.plane(0)), (card.beam(), card.plane(0)))
+
+    def test_a_state_that_no_steps_lead_to(self) -> None:
+        with mock.patch.object(zaklimot.Card, "rebuild", side_effect=zaklimot.NotRebuilt("no")):
+            told = refused(Follower().rebuilt)
+        self.assertEqual(told, "no script rebuilds the state: no")

@@ -36,6 +36,7 @@ from unittest import mock
 from zaklimot_tools.core.trouble import Trouble
 from zaklimot_tools.dev.testing.running import BUILT, TESTED
 from zaklimot_tools.dev.testing.style import PYTHON as STARTING
+from zaklimot_tools.script.library import use_library
 from zaklimot_tools.script.program import PROGRAM as BUILT_PROGRAM
 from zaklimot_tools.script.words import FONTS
 
@@ -215,6 +216,14 @@ def want_program() -> None:
     built."""
     if not os.access(PROGRAM, os.X_OK):
         raise (AssertionError if os.environ.get(BUILT) else unittest.SkipTest)(UNBUILT)
+
+
+def want_library() -> None:
+    """Skips a test where there is no library that explains."""
+    try:
+        use_library()
+    except Trouble as trouble:
+        raise unittest.SkipTest(str(trouble)) from trouble
 
 
 class Ran(NamedTuple):

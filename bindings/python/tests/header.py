@@ -11,7 +11,8 @@ HEADER = TOP / "include" / "zaklimot.h"
 COMMENT = re.compile(r"/\*.*?\*/", re.S)
 STRUCT = re.compile(r"typedef struct (zak_\w+) \{(.*?)\} \1;", re.S)
 CALL = re.compile(r"^(?:zak_status|uint32_t) zak_(\w+)\(([^)]*)\);", re.M)
-STATUS = re.compile(r"ZAK_(\w+) = (\d+)")
+ENUM = re.compile(r"\benum \{(.*?)\};", re.S)
+MEMBER = re.compile(r"ZAK_(\w+) = (\d+)")
 DEFINE = re.compile(r"#define ZAK_(\w+) (.+)")
 FIELD = re.compile(r"(\w+)(?:\[(\d+)\])?")
 
@@ -67,7 +68,14 @@ def calls() -> dict[str, list[str]]:
 
 def statuses() -> dict[str, int]:
     """The numbers of the statuses, by their names without `ZAK_`."""
-    return {name: int(number) for name, number in STATUS.findall(text())}
+    return members("OK")
+
+
+def members(first: str) -> dict[str, int]:
+    """The numbers of the enumeration with this first member, by their names without `ZAK_`."""
+    found = (MEMBER.findall(body) for body in ENUM.findall(text()))
+    one = next(pairs for pairs in found if pairs[0][0] == first)
+    return {name: int(number) for name, number in one}
 
 
 def numbers() -> dict[str, int]:

@@ -8,7 +8,7 @@ import unittest
 from typing import Any
 
 import header
-from zaklimot import _calls, _errors, _library, _state, _structs, _version, format
+from zaklimot import _calls, _errors, _explained, _library, _state, _structs, _version, format
 
 KINDS: dict[str, Any] = {
     "bool": ctypes.c_bool,
@@ -18,6 +18,7 @@ KINDS: dict[str, Any] = {
     "uint16_t": ctypes.c_uint16,
     "uint32_t": ctypes.c_uint32,
     "zak_status": ctypes.c_uint32,
+    "zak_colour": _structs.zak_colour,
 }
 # Where the objects of the package have other names than the structs.
 OBJECTS: dict[str, Any] = {
@@ -28,6 +29,16 @@ OBJECTS: dict[str, Any] = {
     "cell": _state.Cell,
     "place": _state.Position,
     "timing": _state.Timing,
+    "dot_source": _explained.DotSource,
+    "write_stages": _explained.WriteStages,
+    "read_stages": _explained.ReadStages,
+}
+# The enumerations, by how their names begin in the header, and the first of each.
+ENUMS: dict[str, tuple[Any, str]] = {
+    "WHY_": (_explained.Why, "NO_PORT"),
+    "GROUP_": (_explained.Group, "SEQUENCER"),
+    "PART_": (_explained.Part, "INPUT_STATUS_0"),
+    "MISTAKE_": (_explained.MistakeKind, "CHARACTER"),
 }
 RENAMED = {"cursor_places": "cursors", "rate": "dots_per_second", "rate_divisor": "dots_per_second"}
 
@@ -75,6 +86,16 @@ class Header(unittest.TestCase):
         }
         self.assertEqual(own, named)
 
+    def test_enumerations(self) -> None:
+        for begin, (kind, first) in ENUMS.items():
+            wanted = header.members(begin + first)
+            own = {f"{begin}{one.name}": int(one) for one in kind}
+            self.assertEqual(list(own.items()), list(wanted.items()), kind)
+
+    def test_a_reason_has_room_for_its_numbers(self) -> None:
+        room = next(one.elements for one in header.structs()["zak_reason"] if one.elements)
+        self.assertEqual(max(len(why.numbers) for why in _explained.Why), room)
+
     def test_sentences(self) -> None:
         """Each exception says what the library says of its status."""
         names = {number: name for name, number in header.statuses().items()}
@@ -121,7 +142,8 @@ class Header(unittest.TestCase):
 
     def test_the_reader_sees_the_header(self) -> None:
         self.assertGreater(len(header.calls()), 40)
-        self.assertEqual(len(header.structs()), 17)
+        self.assertEqual(len(header.structs()), 22)
+        self.assertEqual(len(header.ENUM.findall(header.text())), 1 + len(ENUMS))
         self.assertEqual(header.structs()["zak_registers"][2], header.Field("seq", "uint8_t", 5))
         self.assertEqual(header.calls()["in"], ["zak_card *", "uint16_t", "uint8_t *"])
         self.assertEqual(header.calls()["fill_bytes"][3:], ["size_t", "bool", "size_t *"])

@@ -73,6 +73,11 @@ CALLS: dict[str, tuple[Any, ...]] = {
     "save_fixed_into": (bytearray(1),),
     "restore_fixed": (b"",),
     "run_on": ("frame",),
+    "explain_step": ("frame", 0),
+    "explain_dot": (),
+    "explain_put": (0xA0000, 1),
+    "explain_get": (0xA0000,),
+    "rebuild": (),
     "close": (),
 }
 # The most that each number may be; one more is out of range. What a page, a row, a column, x or y
@@ -100,6 +105,8 @@ MOST = {
     "cursor": (0xFF,),
     "show_dac": (0xFF,),
     "show_plane": (3, 0xFFFF, 256),
+    "explain_put": (0xFFFF_FFFF, 0xFF),
+    "explain_get": (0xFFFF_FFFF,),
 }
 # No numbers: of each method's, one is replaced by one of these.
 NO_NUMBERS = (1.0, 1.5, "1", b"1", None, [1], 1j, object(), float("nan"), float("inf"))

@@ -410,7 +410,7 @@ class Pages(unittest.TestCase):
 
     def test_programs_of_the_page_run(self) -> None:
         blocks = re.findall(r"^```python\n(.*?)^```$", PAGE.read_text("utf-8"), re.M | re.S)
-        self.assertEqual(len(blocks), 6)
+        self.assertEqual(len(blocks), 10)
         with tempfile.TemporaryDirectory() as name:
             for block in blocks:
                 told = run(

@@ -6,7 +6,6 @@ from __future__ import annotations
 from typing import Callable, Mapping, NamedTuple, Optional
 
 from .raster import character_dots, frame_lines, line_characters
-from .wordings import WORDINGS
 
 
 ATTRIBUTE = 0x3C0
@@ -46,9 +45,11 @@ class MemoryWindow(NamedTuple):
 
 
 # The windows by the memory map, which bits 3 and 2 of a register tell.
-WINDOWS = tuple(
-    MemoryWindow(int(first, 16), int(last, 16) + 1 - int(first, 16))
-    for first, last in WORDINGS["ports"]["windows"]
+WINDOWS = (
+    MemoryWindow(0xA0000, 0x20000),
+    MemoryWindow(0xA0000, 0x10000),
+    MemoryWindow(0xB0000, 0x8000),
+    MemoryWindow(0xB8000, 0x8000),
 )
 
 

@@ -24,12 +24,14 @@ from zaklimot_tools.core.streams import read_at_most
 from zaklimot_tools.core.trouble import Trouble
 from zaklimot_tools.script.reading import text_of
 
-from .mistakes import Mistake, marked_lines, mistake_among_lines, mistake_in
+from .mistakes import Mistake, marked_lines, mistake_in
 from .wordings import WORDINGS, said
 
 # What is said of a file, and of a fault; the page says the same.
 _of_file, _of_fault = (partial(said, part) for part in ("files", "faults"))
-UNKNOWN = said("lines", "unknown")
+UNKNOWN = "refused, and I can't say why"
+# What is told where there is no library that could be asked.
+UNTOLD = "the reason is not told: {}"
 # Files of other kinds, by what they begin with; bytes that no text has; and how much of a file's
 # front is looked at.
 FOREIGN = {bytes.fromhex(begin): what for begin, what in WORDINGS["foreign"]}
@@ -134,8 +136,20 @@ def reason_of(name: str, place: Optional[int], data: bytes) -> str:
 
 
 def _too_long(data: bytes) -> str:
-    what = _of_fault("file has" if len(data) > MOST_BYTES else "steps have")
-    return _of_fault("too long", what=what, most=MOST_BYTES)
+    if data.startswith(MAGIC):
+        return _of_fault("too long", what=_of_fault("file has"), most=MOST_BYTES)
+    mistake = _mistake(data, 0)
+    return UNKNOWN if mistake is None else mistake.reason
+
+
+def _mistake(data: bytes, number: int) -> Optional[Mistake]:
+    """What the library says is wrong in a line of a text, or of its length; None where it says
+    nothing of that."""
+    try:
+        mistake = mistake_in(data)
+    except Trouble as trouble:
+        return Mistake(number, 0, 0, UNTOLD.format(str(trouble).partition("\n")[0]))
+    return mistake if mistake is not None and mistake.line == number else None
 
 
 def _bad_magic(data: bytes) -> str:
@@ -162,11 +176,8 @@ def _bad_line(data: bytes, number: int) -> str:
     whole = _wrong_whole(data) if number == 1 else None
     if whole is not None or not 1 <= number <= len(lines):
         return whole or UNKNOWN
-    line = text_of(lines[number - 1])
-    mistake = mistake_in(line)
-    shown = list(marked_lines(line, mistake or Mistake(0, 0, "")))
-    if mistake is None:
-        return "\n  ".join([mistake_among_lines(data, number) or UNKNOWN, shown[0]])
+    mistake = _mistake(data, number) or Mistake(number, 0, 0, UNKNOWN)
+    shown = marked_lines(text_of(lines[number - 1]), mistake)
     return "\n  ".join([mistake.reason, *shown])
 
 

@@ -1,5 +1,4 @@
-"""The words of bad lines, faults and refusals, and the names of registers: the page says the same
-ones.
+"""The words of faults and of kinds of files, and the names of registers: the page says the same.
 
 They stand in `wordings.json`, of which `vga-page wordings` makes the page's copy.
 """

@@ -21,13 +21,17 @@ from typing import Iterator, Mapping, NamedTuple, Optional, Sequence
 
 from zaklimot import format
 from zaklimot_tools.core.streams import counted
-from zaklimot_tools.trace.state import FIRST_ADDRESS as WINDOW, PLANES, map_mask
+from zaklimot_tools.explain.banks import SEQUENCER
+from zaklimot_tools.trace.state import PLANES
 from zaklimot_tools.trace.trace import ALL_PLANES
 
 from .mode import Kind, Mode
 from .steps import Item, Part, service
 
 
+# The first address of the window, and the register of the sequencer by which writes reach planes.
+WINDOW = 0xA0000
+MAP_MASK = 2
 # The lines of a cell.
 Cell = tuple[bytes, ...]
 CELL_WIDTH = 8
@@ -126,6 +130,11 @@ def put_steps(written: Mapping[int, int]) -> Iterator[Item]:
             yield Item(format.Step("put", (WINDOW + offset, written[offset])))
 
 
+def map_mask(planes: int) -> Item:
+    """Lets writes reach these planes alone."""
+    return Item(format.Step("outw", (SEQUENCER, planes << 8 | MAP_MASK)))
+
+
 def drawing(have: Planes, want: Planes) -> list[Item]:
     """The steps that make planes others, with each map mask once at most, from a map mask of all
     planes on."""
@@ -138,7 +147,7 @@ def drawing(have: Planes, want: Planes) -> list[Item]:
     steps: list[Item] = []
     for mask in MASKS:
         if passes[mask]:
-            steps += [Item(map_mask(mask).step)] if mask != ALL_PLANES else []
+            steps += [map_mask(mask)] if mask != ALL_PLANES else []
             steps += put_steps(passes[mask])
     return steps
 
@@ -402,7 +411,7 @@ class Areas:
         steps = drawn(self._mode, have, want)
         # The map mask is what it was when the block begins again.
         has_masks = any(step.name == "outw" for step in _steps_of(steps))
-        masks = [Item(map_mask(ALL_PLANES).step)] if has_masks else []
+        masks = [map_mask(ALL_PLANES)] if has_masks else []
         items = [scroll(self._mode, window, 1), *steps, *masks]
         block = format.Block(rows, tuple(_steps_of(items)))
         saved = rows * sum(item.step.size for item in steps) - block.size

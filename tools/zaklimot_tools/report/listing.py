@@ -24,7 +24,7 @@ from zaklimot_tools.core.progress import Progress
 from zaklimot_tools.core.streams import JsonList, counted, writing
 from zaklimot_tools.core.trouble import Trouble
 from zaklimot_tools.explain.faults import explained
-from zaklimot_tools.explain.registers import Registers
+from zaklimot_tools.explain.reasons import Reasons
 from zaklimot_tools.script.program import BuiltProgram, Limited, Tried, fault_of
 from zaklimot_tools.script.reading import text_of
 
@@ -208,7 +208,7 @@ class RunScript:
     def _rows(
         self, fonts: str, until: Optional[int], progress: Progress, is_strict: bool, tells_why: bool
     ) -> Iterator[Row]:
-        state = Registers() if tells_why else None
+        reasons = Reasons() if tells_why else None
         # A script may have millions of steps, and each look at an object takes its time.
         dumps_at = self._dumps
         is_told = progress.is_wanted
@@ -216,7 +216,7 @@ class RunScript:
             if is_told and progress.is_due():
                 progress.tell(f"{self.shown}: step {step.number} of {self._count}")
             expected = expected_in(comment) if comment else None
-            why = "" if state is None else state.why_of(words, step)
+            why = "" if reasons is None else reasons.why_of(words, step)
             dump = () if number is None else dumps_at.get(number, ())
             yield made_row((step, words, number, expected, dump, why, is_strict))
 

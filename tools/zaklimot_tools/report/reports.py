@@ -19,8 +19,8 @@ from zaklimot_tools.core.streams import (
     writing,
 )
 from zaklimot_tools.core.trouble import AGREED, DIFFERED, Trouble
+from zaklimot_tools.explain.clocks import USUAL, Registers
 from zaklimot_tools.explain.faults import read_script, script_of
-from zaklimot_tools.explain.registers import USUAL, Registers
 from zaklimot_tools.images.holding import held, held_size
 from zaklimot_tools.images.png import Animation, Shape, save_png
 from zaklimot_tools.images.reading import image_bytes, image_of, size_of

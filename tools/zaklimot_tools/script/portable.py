@@ -47,7 +47,7 @@ NO_COMPILER = (
     f" on macOS Xcode's command line tools (xcode-select --install), or name one by CC; {PAGE}"
 )
 COMPILES = (
-    "{compiler} compiles {told} from portable/ into {folder} now, in about 20 seconds, and once:"
+    "{compiler} compiles {told} from portable/ into {folder} now, in about 30 seconds, and once:"
     " this {kind} is tested, not proved\n"
 )
 WAITS = "another run compiles from portable/ just now: this one waits for it\n"

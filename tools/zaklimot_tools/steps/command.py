@@ -10,6 +10,7 @@ from zaklimot_tools.core.files import check_folder, files, name_of
 from zaklimot_tools.core.progress import Progress
 from zaklimot_tools.core.streams import counted, read_at_most, write, write_file, write_name
 from zaklimot_tools.core.trouble import AGREED, DIFFERED, Trouble
+from zaklimot_tools.script.library import library_path
 from zaklimot_tools.script.words import FONTS
 
 from .adapter import SteppedCard
@@ -17,7 +18,7 @@ from .children import in_children, is_shared
 from .checking import check
 from .confirming import confirm
 from .kinds import KINDS
-from .library import library_path, load
+from .library import load
 from .machines import judge_reports, write_scripts
 from .making import elements
 from .parts import FINAL, Element

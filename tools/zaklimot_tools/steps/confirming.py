@@ -9,11 +9,11 @@ from zaklimot_tools.core.files import name_of
 from zaklimot_tools.core.progress import Progress
 from zaklimot_tools.core.streams import counted, write
 from zaklimot_tools.core.trouble import AGREED, DIFFERED, Trouble
+from zaklimot_tools.script.library import library_path
 from zaklimot_tools.script.program import built_program, check_program_runs
 
 from .children import in_children, is_shared
 from .comparing import differences
-from .library import library_path
 from .parts import NAME, Element
 from .reading import read_elements
 from .running import Runner, runner

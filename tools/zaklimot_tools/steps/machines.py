@@ -18,7 +18,6 @@ from zaklimot_tools.core.streams import (
 )
 from zaklimot_tools.core.trouble import AGREED, DIFFERED, Trouble
 from zaklimot_tools.explain.faults import script_of
-from zaklimot_tools.explain.registers import CYCLES
 from zaklimot_tools.report.places import LIST
 from zaklimot_tools.report.report import Report
 
@@ -28,6 +27,9 @@ from .parts import ANSWER, FINAL, REFUSED, Element
 from .readback import cycles_of, readback_lines, state_read
 from .reading import read_elements, step_of
 from .scripts import reached, text_lines
+
+# The steps that a machine can do.
+CYCLES = {name + width for name in ("out", "in", "put", "get") for width in ("", "w")}
 
 
 def _stem(path: str) -> str:

@@ -10,9 +10,10 @@ from typing import Callable, Iterator, NamedTuple, Optional
 from zaklimot_tools.core.processes import IS_LINUX, streaming
 from zaklimot_tools.core.streams import read_at_most
 from zaklimot_tools.core.trouble import Trouble
+from zaklimot_tools.script.library import library_path
 from zaklimot_tools.script.program import check_ended
 
-from .library import library_path, load
+from .library import load
 from .library import structs as s
 
 # A report of an element has fewer bytes: all planes as dumps, and a picture.

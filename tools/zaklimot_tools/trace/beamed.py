@@ -3,8 +3,8 @@ is then."""
 
 from typing import Iterable, Iterator, Optional
 
+from zaklimot_tools.explain.clocks import Registers, Speed
 from zaklimot_tools.explain.raster import retrace_start
-from zaklimot_tools.explain.registers import Registers, Speed
 
 from .step import FRAME, WRITES, TraceStep, advances
 

@@ -2,7 +2,7 @@
 
 from typing import Iterable, Iterator, Optional
 
-from zaklimot_tools.explain.registers import Registers
+from zaklimot_tools.explain.clocks import Registers
 
 from .step import FRAME, WRITES, TraceStep, advances
 

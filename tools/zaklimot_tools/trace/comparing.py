@@ -12,7 +12,7 @@ from zaklimot_tools.core.files import STANDARD
 from zaklimot_tools.core.progress import Progress
 from zaklimot_tools.core.trouble import AGREED, DIFFERED, Trouble
 from zaklimot_tools.explain.banks import ATTRIBUTE, DAC_DATA, DAC_READ, DAC_WRITE, MASK, MISC
-from zaklimot_tools.explain.registers import Registers, bytes_written
+from zaklimot_tools.explain.clocks import Registers, bytes_written
 from zaklimot_tools.images.holding import told_dots
 from zaklimot_tools.images.png import Shape, save_png
 from zaklimot_tools.report.expecting import NAMES

@@ -32,12 +32,13 @@ from zaklimot_tools.explain.banks import (
     STATUS,
     Banks,
 )
-from zaklimot_tools.explain.registers import INDEX_PORTS, Registers, bytes_written
+from zaklimot_tools.explain.clocks import INDEX_PORTS, Registers, bytes_written
+from zaklimot_tools.explain.reasons import Reasons
 
 from .asked import BEAM, CLOCK, END, FLIP, SCREENS, Frames
 from .beamed import Beamed
 from .clocked import Clocked
-from .state import State, rebuilt
+from .rebuilding import Follower
 from .step import (
     ADVANCE,
     BEAM_BITS,
@@ -245,24 +246,21 @@ class Listing:
             yield f"{cycles} {has} without a pause"
 
     def _from_the_middle(self, steps: Iterator[TraceStep]) -> Iterator[TraceStep]:
-        state = State()
+        follower = Follower()
         for step in steps:
             if step.cycle >= self._first:
                 break
-            if step.opcode == INT:
-                reason = (
-                    "a call of interrupt 10, and --from follows cycles alone: what comes after it"
-                    " begins at power-on"
-                )
-                raise Trouble(f"cycle {step.cycle:,} is {reason}", self.trace.name)
-            state.take(step)
+            if step.opcode == FRAME:
+                follower.end_frame()
+            else:
+                follower.take(step.data())
         else:
             cycles = counted(self.trace.count, "cycle", ",")
             told = f"it has {cycles}, and none from {self._first:,} on becomes a step"
             raise Trouble(told, self.trace.name)
-        for rebuilding in rebuilt(state):
-            self.rebuilding += 1
-            yield rebuilding
+        before = follower.rebuilt()
+        self.rebuilding += len(before)
+        yield from before
         yield step
         yield from steps
 
@@ -654,6 +652,7 @@ class Checking:
         # How many steps were refused that qemu does, and why the first of them was.
         self._left_out = 0
         self._why = ""
+        self._reasons = Reasons()
 
     def left_out(self) -> str:
         """What is told of the steps so far that ask for what the adapter leaves out; empty if there
@@ -673,7 +672,7 @@ class Checking:
                 checked.steps += 1
             else:
                 self._take(step, answer, name)
-            if step.opcode in PORTS:
+            if step.opcode in PORTS or step.opcode == INT:
                 self._follow(step)
         if next(answers, None) is not None:
             raise Trouble(
@@ -691,7 +690,9 @@ class Checking:
         self.checked.take(step, answer, self._kind(step), is_exact)
         if answer.answer.startswith(LEFT_OUT):
             self._left_out += 1
-            self._why = self._why or self._reason(step, answer)
+            if not self._why:
+                why = self._reasons.why(step.data(), answer.refusal)
+                self._why = f"{format.printed(step.step)}: {why or answer.answer}"
 
     def _kind(self, step: TraceStep) -> str:
         if step.call is not None:
@@ -709,20 +710,15 @@ class Checking:
         bank = self._banks.bank(port - 1)
         return self._given.get(port - 1, 0) & 0x1F if bank is None else bank.number
 
-    def _reason(self, step: TraceStep, answer: Answer) -> str:
-        """Why a step was refused, as it reads in `vga-report run`."""
-        registers = Registers()
-        registers.banks = self._banks
-        words = format.printed(step.step)
-        return f"{words}: {registers.why(words, answer.refusal) or answer.answer}"
-
     def _follow(self, step: TraceStep) -> None:
+        if not self._why:
+            self._reasons.take(step.data())
         if step.opcode == OUT:
             self._write(step.address, step.value)
         elif step.opcode == OUTW:
             self._write(step.address, step.value & 0xFF)
             self._write(step.address + 1, step.value >> 8)
-        elif step.address == self._banks.controller + STATUS:
+        elif step.opcode != INT and step.address == self._banks.controller + STATUS:
             self._banks.read_status()
 
     def _write(self, port: int, value: int) -> None:

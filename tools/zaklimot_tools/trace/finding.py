@@ -10,8 +10,8 @@ from zaklimot_tools.core.files import name_of
 from zaklimot_tools.core.progress import Progress
 from zaklimot_tools.core.trouble import AGREED, DIFFERED
 from zaklimot_tools.explain.banks import WINDOWS
+from zaklimot_tools.explain.clocks import Registers
 from zaklimot_tools.explain.raster import is_graphics
-from zaklimot_tools.explain.registers import Registers
 from zaklimot_tools.script.program import tried_program
 
 from .cells import code_page, text_of

@@ -48,9 +48,9 @@ from zaklimot_tools.script.program import BuiltProgram, check_ended
 from .asked import SCREENS
 from .converting import Checked, Checking, Listing, Rows, Written, folded
 from .cutting import NOT_REBUILT, REST_OF_FRAME, Cutting, ScriptEnd
-from .rebuilding import rebuilt_as_told
+from .rebuilding import steps_behind
 from .recording import PHASES, dump
-from .state import State, rebuilt
+from .state import State
 from .step import TraceStep
 from .told import Told
 from .trace import opened
@@ -442,7 +442,7 @@ class _Scripts:
             self._done.take_script(written, len(self._before), number)
             if self._rows.are_done:
                 break
-            self._go_on(ended)
+            self._go_on(ended, steps_behind(script.read_bytes(), fonts))
         # What the trace lacks is known at its end.
         deque(self._steps, 0)
 
@@ -469,12 +469,11 @@ class _Scripts:
         steps = chain(islice(self._steps, own), ended.as_traced(self._steps))
         self._done.checking.take(steps, answers, name)
 
-    def _go_on(self, ended: ScriptEnd) -> None:
-        """Goes on after a script: the next one rebuilds the state."""
+    def _go_on(self, ended: ScriptEnd, before: Sequence[TraceStep]) -> None:
+        """Goes on after a script: the next one begins with steps that rebuild the state."""
         self._steps = chain(ended.left, self._steps)
         self._told = ended.told
-        state = self._done.state
-        self._before = list(rebuilt_as_told(self._told) if self._done.is_own else rebuilt(state))
+        self._before = before
 
 
 def replay(

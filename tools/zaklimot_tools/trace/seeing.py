@@ -20,13 +20,13 @@ from .cells import ansi_lines, code_page, html_lines, plain_lines
 from .colourfiles import gpl_of, jasc_of, plane_pictures, starts_of_pages
 from .fontfiles import bdf_of, font_of, psf_of, usual_height, usual_map
 from .moments import Moment, Steps
-from .state import TAKEN, State
+from .state import State
 from .step import FRAME, OUTW, TraceStep, advances
 from .trace import opened
 from .walking import FRAME_STEP, Item, Question, Walk
 
 LINES = {PLAIN: plain_lines, ANSI: ansi_lines, HTML: html_lines}
-START_HIGH, START_LOW = TAKEN[1:]
+START_HIGH, START_LOW = 0x0C, 0x0D
 # So many frames lie between the pictures of two pages, of the 32 after which all blinks anew.
 PAUSE = 30
 

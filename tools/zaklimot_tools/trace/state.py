@@ -1,14 +1,11 @@
-"""What cycles leave of the adapter: its registers, its DAC, its memory and the beam's place.
-
-Steps rebuild such a state from power-on, so that a script can begin in the middle of a trace.
-"""
+"""What cycles leave of the adapter: its registers, its DAC, its memory and the beam's place."""
 
 from __future__ import annotations
 
 from functools import partial
 from math import prod
 from operator import and_, or_, xor
-from typing import Callable, Iterable, Iterator, NamedTuple, Optional, Sequence, TypeVar
+from typing import Callable, NamedTuple, Optional, Sequence
 
 from zaklimot.format import PLANE_BYTES
 from zaklimot_tools.explain.banks import (
@@ -18,24 +15,16 @@ from zaklimot_tools.explain.banks import (
     DAC_PORTS,
     DAC_WRITE,
     ENABLE_MEMORY,
-    GRAPHICS,
     MASK,
-    MISC,
     MISC_READ,
-    PROTECT,
-    RETRACE_END,
-    SEQUENCER,
     STATUS,
     WINDOWS,
     Banks,
     FrameShape,
 )
 
-from .step import ADVANCE, FRAME, GET, GETW, IN, INW, OUT, OUTW, PUT, PUTW, READS, WORDS, TraceStep
-from .trace import ALL_PLANES
+from .step import ADVANCE, FRAME, GET, GETW, IN, INW, OUT, OUTW, PUT, PUTW, WORDS, TraceStep
 
-
-FIRST_ADDRESS = 0xA0000
 PLANES = 4
 # A byte in each of the four bytes of a word, and words of which the bytes of some planes are FF.
 EACH = 0x01010101
@@ -50,22 +39,6 @@ COMPONENTS = 3
 ENTRIES = 256
 # Frames are counted modulo so many: the cursor and blinking text go by this number.
 FRAMES = 32
-# The CRT controller's registers that are taken at a frame's first dot: preset row scan, start
-# address.
-TAKEN = (0x08, 0x0C, 0x0D)
-# Sequencer and graphics controller such that a byte goes to the planes of the map mask, at its
-# address' offset.
-PLANAR = (
-    (SEQUENCER, 0x04, 0x06),
-    *((GRAPHICS, index, 0) for index in range(6)),
-    (GRAPHICS, 0x06, 0x04),
-    (GRAPHICS, 0x08, 0xFF),
-)
-MAP_MASK = 0x02
-# Where calls of interrupt 10 load glyphs: the planes, as a mask, and how many bytes.
-FONT_PLANES = 0b0100
-FONT_BYTES = 0x2000
-Value = TypeVar("Value")
 
 
 class State(Banks):
@@ -90,7 +63,7 @@ class State(Banks):
         elif opcode in (OUT, OUTW):
             self.write(address, value, is_word=size == 2)
         elif opcode == ADVANCE:
-            self.beam.advance(address, self.shape, self.crtc.registers)
+            self.beam.advance(address, self.shape)
         elif opcode == FRAME:
             self.beam.end_frame()
         elif opcode in (GET, GETW):
@@ -271,8 +244,6 @@ class Beam:
     def __init__(self) -> None:
         self.frame = 0
         self.place = BeamPlace()
-        # What was taken of the registers at the first dot of the frame under way.
-        self.taken = dict.fromkeys(TAKEN, 0)
 
     @property
     def is_at_begin(self) -> bool:
@@ -285,13 +256,12 @@ class Beam:
         inside = BeamPlace(*(min(at, most - 1) for at, most in zip(self.place, shape)))
         return (inside.line * shape.characters + inside.character) * shape.dots + inside.dot
 
-    def advance(self, count: int, shape: FrameShape, crtc: Sequence[int]) -> None:
+    def advance(self, count: int, shape: FrameShape) -> None:
         """Goes on by so many dots. The line and the character stay as they are, inside or outside,
         until they end."""
         characters = shape.characters
         dots = shape.dots
         line, character, dot = self.place
-        was_at_begin = self.is_at_begin
         begin = self.drawn(shape)
         end = begin + count
         frames = 0
@@ -303,143 +273,9 @@ class Beam:
             frames, rest = divmod(end, prod(shape))
             line = rest // (dots * characters)
             self.place = BeamPlace(line, rest // dots % characters, rest % dots)
-        if (was_at_begin or frames) and not self.is_at_begin:
-            self.taken = {index: crtc[index] for index in TAKEN}
         self.frame = (self.frame + frames) % FRAMES
 
     def end_frame(self) -> None:
         """Goes on to the end of the frame."""
         self.frame = (self.frame + 1) % FRAMES
         self.place = BeamPlace()
-
-
-def rebuilt(state: State, calls: Sequence[TraceStep] = ()) -> Iterator[TraceStep]:
-    """The steps that take the adapter from power-on to a state. What they read is what it answers
-    then. Calls of interrupt 10, which write glyphs and no other memory, leave the BIOS data; what
-    else they do is overwritten."""
-    taking = State()
-    for step in _steps(state, taking, calls):
-        read = taking.take(step)
-        yield step._replace(value=read) if step.opcode in READS and read is not None else step
-
-
-def _register(port: int, index: int, value: int) -> TraceStep:
-    return TraceStep(OUTW, port, value << 8 | index)
-
-
-def map_mask(planes: int) -> TraceStep:
-    """Lets writes reach these planes alone."""
-    return _register(SEQUENCER, MAP_MASK, planes)
-
-
-def masks_of(values: Iterable[Value]) -> dict[Value, int]:
-    """The planes of each value, of the values of all planes."""
-    masks: dict[Value, int] = {}
-    for plane, value in enumerate(values):
-        masks[value] = masks.get(value, 0) | 1 << plane
-    return masks
-
-
-def _steps(state: State, begin: State, calls: Sequence[TraceStep]) -> Iterator[TraceStep]:
-    if state.beam.frame:
-        # A frame at power-on has fewer dots than any other.
-        yield TraceStep(ADVANCE, state.beam.frame * prod(begin.shape))
-    yield from calls
-    yield TraceStep(OUT, MISC, state.misc | ENABLE_MEMORY)
-    yield from (_register(*setting) for setting in PLANAR)
-    yield from _without_glyphs() if calls else ()
-    yield from _latches(state.memory.latches)
-    yield from _planes(state.memory.words)
-    for port, bank in ((GRAPHICS, state.gfx), (SEQUENCER, state.seq)):
-        yield from (_register(port, index, value) for index, value in enumerate(bank.registers))
-    yield from _attributes(state)
-    yield from _dac(state)
-    yield from _controller(state)
-    for port, bank in (
-        (GRAPHICS, state.gfx),
-        (SEQUENCER, state.seq),
-        (state.controller, state.crtc),
-    ):
-        yield TraceStep(OUT, port, bank.index)
-    if not state.misc & ENABLE_MEMORY:
-        yield TraceStep(OUT, MISC, state.misc)
-
-
-def _without_glyphs() -> Iterator[TraceStep]:
-    """Takes away the glyphs that calls may have loaded."""
-    yield map_mask(FONT_PLANES)
-    for offset in range(0, FONT_BYTES, 2):
-        yield TraceStep(PUTW, FIRST_ADDRESS + offset, 0)
-
-
-def _latches(latches: int) -> Iterator[TraceStep]:
-    """Latches are loaded from memory, which has them for as long."""
-    if not latches:
-        return
-    for plane in range(PLANES):
-        yield map_mask(1 << plane)
-        yield TraceStep(PUT, FIRST_ADDRESS, latches >> 8 * plane & 0xFF)
-    yield TraceStep(GET, FIRST_ADDRESS)
-    yield map_mask(ALL_PLANES)
-    yield TraceStep(PUT, FIRST_ADDRESS, 0)
-
-
-def _planes(words: list[int]) -> Iterator[TraceStep]:
-    """What isn't 0 in the planes, two offsets a step, and once for all planes that have the same
-    there."""
-    steps: dict[int, list[TraceStep]] = {}
-    for offset in range(0, PLANE_BYTES, 2):
-        low = words[offset]
-        high = words[offset + 1]
-        if not (low or high):
-            continue
-        values = (
-            low >> 8 * plane & 0xFF | (high >> 8 * plane & 0xFF) << 8 for plane in range(PLANES)
-        )
-        for value, planes in masks_of(values).items():
-            if value:
-                steps.setdefault(planes, []).append(TraceStep(PUTW, FIRST_ADDRESS + offset, value))
-    for planes in sorted(steps):
-        yield map_mask(planes)
-        yield from steps[planes]
-
-
-def _attributes(state: State) -> Iterator[TraceStep]:
-    """The attribute controller: its palette is written before it is looked at; what is written next
-    is as it was."""
-    status = state.controller + STATUS
-    yield TraceStep(IN, status)
-    for index, value in enumerate(state.attr.registers):
-        yield TraceStep(OUT, ATTRIBUTE, index)
-        yield TraceStep(OUT, ATTRIBUTE, value)
-    yield TraceStep(OUT, ATTRIBUTE, state.attr.index)
-    if not state.is_data:
-        yield TraceStep(IN, status)
-
-
-def _dac(state: State) -> Iterator[TraceStep]:
-    """The DAC: its entries, what waits for blue, and which component is next, by reading those
-    before it."""
-    dac = state.dac
-    yield TraceStep(OUT, MASK, dac.mask)
-    yield TraceStep(OUT, DAC_WRITE, 0)
-    yield from (TraceStep(OUT, DAC_DATA, component) for component in dac.components)
-    yield from (TraceStep(OUT, DAC_DATA, component) for component in dac.waiting)
-    yield TraceStep(OUT, DAC_WRITE, dac.index)
-    yield from [TraceStep(IN, DAC_DATA)] * dac.next
-
-
-def _controller(state: State) -> Iterator[TraceStep]:
-    """The CRT controller, and the beam's place in its frame, which began with registers of that
-    time."""
-    port = state.controller
-    registers = state.crtc.registers
-    taken = {} if state.beam.is_at_begin else state.beam.taken
-    yield _register(port, RETRACE_END, registers[RETRACE_END] & ~PROTECT)
-    for index, value in enumerate(registers):
-        if index != RETRACE_END:
-            yield _register(port, index, taken.get(index, value))
-    yield _register(port, RETRACE_END, registers[RETRACE_END])
-    if not state.beam.is_at_begin:
-        yield TraceStep(ADVANCE, state.beam.drawn(state.shape))
-        yield from (_register(port, index, registers[index]) for index in TAKEN)

@@ -1,14 +1,12 @@
 """What the program tells of the adapter at a moment: steps that ask for all of its state, and the
 state that their answers spell."""
 
-from dataclasses import dataclass
 from typing import Callable, Iterator, Sequence
 
 from zaklimot.format import PLANE_BYTES, Answer, Step
 from zaklimot_tools.core.trouble import Trouble
 from zaklimot_tools.explain.banks import Bank
 from zaklimot_tools.report.dumps import (
-    CURSORS,
     DumpedBank,
     beam_in,
     bios_data_in,
@@ -23,24 +21,6 @@ from .state import COMPONENTS, ENTRIES, PLANES, BeamPlace, State
 SHOWN_BYTES = 256
 # The first words of the answers that show all of a part of the adapter.
 WHOLE = ("misc", "beam", "latches", "bda")
-
-
-@dataclass(frozen=True)
-class BiosData:
-    """The data of the video BIOS, as `show bda` shows them; `at` has the cursors of the pages, row
-    and column of each in a word."""
-
-    mode: int = 0
-    start: int = 0
-    at: tuple[int, ...] = (0,) * CURSORS
-    type: int = 0
-    page: int = 0
-    height: int = 0
-
-    @property
-    def has_mode(self) -> bool:
-        """Whether a mode was set."""
-        return self.height > 0
 
 
 def state_asked() -> Iterator[Step]:
@@ -60,14 +40,13 @@ STATE_STEPS = sum(1 for _ in state_asked())
 
 
 class Told:
-    """A state that is filled in by answers, one after the other; `bios` has the BIOS data.
+    """A state that is filled in by answers, one after the other.
 
     `shown` has the lines of the answers that show all of a part, by their first words.
     """
 
     def __init__(self) -> None:
         self.state = State()
-        self.bios = BiosData()
         self.shown: dict[str, tuple[str, ...]] = {}
 
     def take(self, answer: Answer) -> None:
@@ -135,17 +114,9 @@ def _take_plane(told: Told, lines: Sequence[str]) -> None:
         words[at] = words[at] & kept | value << shift
 
 
-def _take_bios_data(told: Told, lines: Sequence[str]) -> None:
-    read = bios_data_in(lines[0])
-    named = read.numbers
-    told.bios = BiosData(
-        mode=named["mode"],
-        start=named["start"],
-        at=tuple(read.cursors),
-        type=named["type"],
-        page=named["page"],
-        height=named["height"],
-    )
+def _take_bios_data(_: Told, lines: Sequence[str]) -> None:
+    """The data of the video BIOS are kept as they are shown, if they are."""
+    bios_data_in(lines[0])
 
 
 TAKING: dict[str, Callable[[Told, Sequence[str]], None]] = {

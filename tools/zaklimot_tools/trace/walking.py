@@ -1,14 +1,14 @@
 """The adapter goes through the steps of a trace, and tells what is asked of it between them.
 
 A trace may be too long for one script. Each script but the first then begins with steps that
-rebuild what the adapter has told at the end of the one before.
+rebuild the state at the end of the one before.
 """
 
 from dataclasses import dataclass, field
 from io import BufferedReader
 from pathlib import Path
 from tempfile import TemporaryDirectory
-from typing import BinaryIO, Generic, Iterable, Iterator, Optional, Sequence, TypeVar, Union, cast
+from typing import BinaryIO, Generic, Iterable, Iterator, Sequence, TypeVar, Union, cast
 
 from zaklimot import format
 from zaklimot.format import HEADERS, MOST_BYTES, MOST_STEPS, Answer
@@ -18,14 +18,14 @@ from zaklimot_tools.core.trouble import Trouble
 from zaklimot_tools.report.report import Report
 from zaklimot_tools.script.program import BuiltProgram, fault_of
 
-from .rebuilding import rebuilt_as_told
+from .rebuilding import steps_behind
 from .step import TraceStep
 from .told import Told, state_asked
 
 # What asks for the picture of a frame.
 FRAME_STEP = format.Step("frame", ())
 # A script has so many bytes and steps of a trace at most. What is left of those that it may have is
-# for the steps that rebuild a state at its begin, and those that ask for one at its end.
+# for the steps that rebuild a state at its begin.
 ROOM = 1 << 21
 MOST_PART = MOST_BYTES - ROOM
 MOST_PART_STEPS = MOST_STEPS - ROOM
@@ -47,11 +47,10 @@ Item = Union[TraceStep, Question[Tag]]
 
 @dataclass(frozen=True)
 class Asked(Generic[Tag]):
-    """A step of a script whose answer is wanted, by its number. It has no question if it asks for
-    the state at the script's end."""
+    """A step of a script whose answer is wanted, by its number."""
 
     number: int
-    question: Optional[Question[Tag]] = None
+    question: Question[Tag]
 
 
 @dataclass
@@ -89,13 +88,6 @@ class ScriptPart(Generic[Tag]):
         else:
             self._write(item.data())
 
-    def ask_state(self) -> None:
-        """Writes the steps that ask for the state."""
-        for step in state_asked():
-            self.steps += 1
-            self.asked.append(Asked(self.steps))
-            self._write(format.encoded(step))
-
     def _write(self, data: bytes) -> None:
         self.size += self.stream.write(data)
 
@@ -120,9 +112,8 @@ class Walk:
                     part = ScriptPart[Tag](stream)
                     part.begin(before)
                     is_cut = self._fill(part, rest)
-                told = Told()
-                yield from self._run(script, part, told)
-                before = list(rebuilt_as_told(told)) if is_cut else ()
+                yield from self._run(script, part)
+                before = steps_behind(script.read_bytes(), self._fonts) if is_cut else ()
 
     def state(self, items: Iterable[TraceStep]) -> Told:
         """What the adapter tells of itself after all steps."""
@@ -132,18 +123,17 @@ class Walk:
         return told
 
     def _fill(self, part: ScriptPart[Tag], rest: Iterator[Item[Tag]]) -> bool:
-        """Fills a script; whether something is left, where the state is asked at its end."""
+        """Fills a script; whether something may be left."""
         for item in rest:
             part.add(item)
             if self._progress.is_due():
                 self._progress.tell(f"a script is made: {counted(part.steps, 'step', ',')}")
             if part.is_full:
-                part.ask_state()
                 return True
         return False
 
-    def _run(self, script: Path, part: ScriptPart[Tag], told: Told) -> Iterator[tuple[Tag, Answer]]:
-        """The answers of a script. Those that tell the state at its end are taken here."""
+    def _run(self, script: Path, part: ScriptPart[Tag]) -> Iterator[tuple[Tag, Answer]]:
+        """The answers of a script."""
         rest = iter(part.asked)
         asked = next(rest, None)
         count = 0
@@ -153,10 +143,7 @@ class Walk:
                 count = answer.number
                 if asked is None or count != asked.number:
                     continue
-                if asked.question is None:
-                    told.take(answer)
-                else:
-                    yield asked.question.tag, answer
+                yield asked.question.tag, answer
                 asked = next(rest, None)
         if outcome.status or count != part.steps:
             ended = f"it ended with status {outcome.status}"

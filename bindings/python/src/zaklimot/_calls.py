@@ -81,9 +81,15 @@ CALLS: dict[str, tuple[Any, ...]] = {
     "restore": (CARD, In, SIZE),
     "save_fixed": (CARD, BYTES, SIZE),
     "restore_fixed": (CARD, In, SIZE),
+    "explain_step": (CARD, In, SIZE, U32, _to(s.zak_reason), *ROOM, COUNT),
+    "explain_dot": (CARD, _to(s.zak_beam), _to(s.zak_dot_source)),
+    "explain_put": (CARD, U32, U8, _to(s.zak_write_stages)),
+    "explain_get": (CARD, U32, _to(s.zak_read_stages)),
+    "rebuild": (CARD, *ROOM, _to(BOOL)),
     "run": (In, SIZE, In, SIZE, *ROOM, COUNT),
     "run_on": (CARD, In, SIZE, U32, U32, *ROOM, COUNT, COUNT),
     "assemble": (In, SIZE, *ROOM, COUNT),
+    "explain_text": (In, SIZE, _to(s.zak_mistake), *ROOM),
     "print": (In, SIZE, *ROOM, COUNT),
 }
 

@@ -194,6 +194,15 @@ class ManyColours(Error):
     number = 35
 
 
+class NotRebuilt(Error):
+    """The steps that were tried lead to another state.
+
+    No steps lead to the state of the card: it was restored from bytes that were changed.
+    """
+
+    number = 36
+
+
 class StateError(Error, ValueError):
     """The bytes can't be restored. The card is unchanged."""
 

@@ -1,12 +1,13 @@
-"""Scripts without a card: their two forms, and whole runs."""
+"""Scripts without a card: their two forms, what is wrong in a text, and whole runs."""
 
 from __future__ import annotations
 
 import ctypes
-from typing import Any, Union
+from typing import Any, Optional, Union
 
 from . import _structs as s
 from ._errors import error_of
+from ._explained import Mistake, MistakeKind
 from ._library import loaded
 from ._memory import Room
 
@@ -16,6 +17,7 @@ NO_ROOM = 25
 FIRST_ROOM = 1 << 25
 # The forms of a script: its text, its bytes, or an object with a method `text`.
 AnyScript = Union[str, bytes, bytearray, memoryview, Any]
+AnyText = Union[str, bytes, bytearray, memoryview]
 
 
 def script_bytes(script: AnyScript) -> bytes:
@@ -42,7 +44,11 @@ def _other_form(name: str, given: bytes) -> bytes:
     return bytes(made)[: length.value]
 
 
-def assemble(text: Union[str, bytes]) -> bytes:
+def _text_bytes(text: AnyText) -> bytes:
+    return text.encode("utf-8") if isinstance(text, str) else bytes(memoryview(text))
+
+
+def assemble(text: AnyText) -> bytes:
     """Assembles a text into the bytes of a script (docs/SCRIPT.md).
 
         zaklimot.assemble("frame")          # b"VGAS\\x01\\x0b"
@@ -50,8 +56,37 @@ def assemble(text: Union[str, bytes]) -> bytes:
     `text` is a str, or the text's bytes. Raises BadLine, whose `place` is the line's number from 1,
     and TooLong.
     """
-    given = text.encode("utf-8") if isinstance(text, str) else bytes(memoryview(text))
-    return _other_form("assemble", given)
+    return _other_form("assemble", _text_bytes(text))
+
+
+def explain_text(text: AnyText) -> Optional[Mistake]:
+    """What is wrong in a text that `assemble` refuses; None if the text spells a script.
+
+        mistake = zaklimot.explain_text("frame\\nout 3c4\\n")
+        mistake.line, mistake.start         # 2, 7: at the end of line 2
+        mistake.sentence                    # value is lacking: out port value
+
+    `text` is a str, or the text's bytes. Only the first mistake is told. Raises OutOfMemory.
+    """
+    given, told, length = _text_bytes(text), s.zak_mistake(), s.SIZE()
+    sentence = (s.U8 * s.MOST_MISTAKE_TEXT)()
+    status = loaded().calls["explain_text"](
+        given, len(given), ctypes.byref(told), sentence, len(sentence), ctypes.byref(length)
+    )
+    if status:
+        raise error_of(status)
+    if not told.kind:
+        return None
+    said = bytes(sentence[: length.value]).decode("utf-8", "replace")
+    place = (told.start, told.length)
+    if isinstance(text, str) and told.line:
+        place = _in_characters(given.split(b"\n")[told.line - 1], *place)
+    return Mistake(told.line, *place, MistakeKind(told.kind), said)
+
+
+def _in_characters(line: bytes, start: int, length: int) -> tuple[int, int]:
+    """A part of a line that is counted in bytes, counted in characters."""
+    return len(line[:start].decode("utf-8")), len(line[start : start + length].decode("utf-8"))
 
 
 def disassemble(script: Union[bytes, bytearray, memoryview]) -> str:

@@ -20,7 +20,7 @@ WIDEST, HIGHEST = 2304, 1024
 MOST_RGB = 3 * WIDEST * HIGHEST
 MOST_TABLE = 768
 MOST_TEXT = 32_768
-MOST_STATUS_TEXT = 128
+MOST_STATUS_TEXT, MOST_REASON_TEXT, MOST_MISTAKE_TEXT = 128, 160, 256
 FIRST_STATE, MOST_STATE = 265_086, 7_342_974
 
 
@@ -145,3 +145,72 @@ class zak_cell(Structure):
 
 class zak_place(Structure):
     _fields_ = [("row", U8), ("column", U8)]
+
+
+class zak_reason(Structure):
+    _fields_ = [("status", U32), ("kind", U32), ("numbers", U32 * 5), ("is_high", BOOL)]
+
+
+class zak_dot_source(Structure):
+    _fields_ = [
+        ("counter", U16),
+        ("address", U16),
+        ("glyph_address", U16),
+        ("is_display", U8),
+        ("panning", U8),
+        ("dot", U8),
+        ("bytes", U8 * 4),
+        ("is_text", U8),
+        ("character", U8),
+        ("attribute", U8),
+        ("map", U8),
+        ("glyph_row", U8),
+        ("is_cursor", U8),
+        ("is_blinked_away", U8),
+        ("is_underlined", U8),
+        ("is_glyph_dot", U8),
+        ("is_foreground", U8),
+        ("has_palette", U8),
+        ("nibble", U8),
+        ("palette_register", U8),
+        ("palette_value", U8),
+        ("is_colour_select_wide", U8),
+        ("middle", U8),
+        ("high", U8),
+        ("is_palette_shown", U8),
+        ("number", U8),
+        ("mask", U8),
+        ("entry", U8),
+        ("is_screen_off", U8),
+        ("colour", zak_colour),
+    ]
+
+
+class zak_write_stages(Structure):
+    _fields_ = [
+        ("in_window", U16),
+        ("offset", U16),
+        ("write_mode", U8),
+        ("rotated", U8),
+        ("data", U8 * 4),
+        ("combined", U8 * 4),
+        ("mask", U8),
+        ("planes", U8),
+        ("before", U8 * 4),
+        ("written", U8 * 4),
+    ]
+
+
+class zak_read_stages(Structure):
+    _fields_ = [
+        ("in_window", U16),
+        ("offset", U16),
+        ("loaded", U8 * 4),
+        ("is_compare", U8),
+        ("plane", U8),
+        ("value", U8),
+    ]
+
+
+class zak_mistake(Structure):
+    _fields_ = [("line", SIZE), ("start", SIZE), ("length", SIZE), ("kind", U32)]

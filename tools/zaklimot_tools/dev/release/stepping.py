@@ -10,7 +10,7 @@ from typing import Optional
 from zaklimot_tools import TOP
 from zaklimot_tools.core.processes import Hearer, Word, run
 from zaklimot_tools.core.trouble import Trouble
-from zaklimot_tools.steps.library import NAMED, library_path
+from zaklimot_tools.script.library import NAMED, library_path
 
 from .words import COUNT, STEPS
 

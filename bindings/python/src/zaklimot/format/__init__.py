@@ -19,7 +19,7 @@ Python 3.9 and its standard library.
 """
 
 from .answers import is_answer_to
-from .binary import decode, encode, encoded, is_bytes, read
+from .binary import decode, encode, encoded, is_bytes, items_in, read
 from .lines import Line, count_in, lines_in, places_in, steps_in, words_in
 from .picture import Digest, Picture
 from .report import Answer, Report, ReportError
@@ -103,6 +103,7 @@ __all__ = [
     "encoded",
     "is_answer_to",
     "is_bytes",
+    "items_in",
     "lines_in",
     "parse_line",
     "parse_text",

@@ -53,6 +53,13 @@ def encode(script: Script) -> bytes:
 def decode(data: bytes) -> Script:
     """The script that bytes spell. Raises ScriptFault with the first fault in the order of
     docs/SCRIPT.md."""
+    items = tuple(items_in(data))
+    return Script(items, data[len(MAGIC)])
+
+
+def items_in(data: bytes) -> Iterator[Item]:
+    """The steps and blocks that bytes spell, one after another, so that memory holds few of them.
+    Raises ScriptFault where it comes to a fault."""
     if len(data) > MOST_BYTES:
         raise ScriptFault("TooLong")
     if not is_bytes(data):
@@ -63,7 +70,7 @@ def decode(data: bytes) -> Script:
     version = data[at]
     if version not in HEADERS:
         raise ScriptFault("BadVersion")
-    return Script(tuple(_Reader(data, at + 1).items(version == 2)), version)
+    yield from _Reader(data, at + 1).items(version == 2)
 
 
 class _Reader:

@@ -1,0 +1,64 @@
+"""Which library the tools load, and that what they start may have another."""
+
+from __future__ import annotations
+
+import os
+import shutil
+import subprocess
+import sys
+from pathlib import Path
+
+from zaklimot_tools.script.library import NAMED
+from zaklimot_tools.script.portable import portable_library
+
+from .tools import TOOLS, Folder, want_library
+
+# Loads the library where a release has one at a place, and tells which, and what is named then.
+LOADS = f"""import os, pathlib, sys
+import zaklimot_tools
+import zaklimot
+from zaklimot_tools.core.trouble import Trouble
+from zaklimot_tools.script import library
+library.RELEASED = pathlib.Path(sys.argv[1])
+try:
+    library.use_library()
+    print(zaklimot.library_path())
+except Trouble as trouble:
+    print(trouble)
+print(os.environ.get("{NAMED}"))
+"""
+
+
+class Loading(Folder):
+    def setUp(self) -> None:
+        super().setUp()
+        want_library()
+        self.portable = portable_library()
+        self.other = str(self.folder / "libzaklimot.so")
+        shutil.copyfile(self.portable, self.other)
+
+    def loaded(self, released: str, **named: str) -> list[str]:
+        """What a process tells that loads the library."""
+        kept = {name: value for name, value in os.environ.items() if name != NAMED}
+        words = [sys.executable, "-c", LOADS, released]
+        done = subprocess.run(
+            words, cwd=TOOLS, env={**kept, **named}, capture_output=True, text=True, timeout=200
+        )
+        self.assertEqual((done.returncode, done.stderr), (0, ""))
+        return done.stdout.splitlines()
+
+    def test_which_one(self) -> None:
+        none = str(self.folder / "none")
+        self.assertEqual(self.loaded(none), [self.portable, "None"])
+        self.assertEqual(self.loaded(self.other), [self.other, "None"])
+        named = self.loaded(none, ZAKLIMOT_LIBRARY=self.other)
+        self.assertEqual(named, [self.other, self.other])
+        # A release's may be for another system.
+        self.assertEqual(self.loaded(self.write("text", b"")), [self.portable, "None"])
+
+    def test_what_can_not_be_loaded(self) -> None:
+        for name in ("none", self.write("text", b"no library")):
+            path = str(Path(self.folder, name))
+            (told, named) = self.loaded(self.other, ZAKLIMOT_LIBRARY=path)
+            self.assertEqual((told.startswith(f"{path}: "), named), (True, path))
+            self.assertNotIn("pip install", told)
