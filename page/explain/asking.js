@@ -6,6 +6,7 @@ import { Trouble } from "../common/trouble.js";
 import { cssColour, element, selectOf } from "../common/dom.js";
 import { DotSearch, dotOfSeen } from "./dotsearch.js";
 import { rowsOfDot } from "./dotrows.js";
+import { sourceAt } from "./way.js";
 import { subjectOf } from "./subjects.js";
 
 /** What the buttons of the cards say. */
@@ -30,6 +31,7 @@ export class Asking {
 
   /**
    * `heard` has `drawn(line, dot)`, `change(subject)`, `watch(words)` and `stop(points)`;
+   * `beamAt(words, seen)` answers the beam of a dot whose change is shown, or null;
    * `colourAt(line, dot)` answers the colour of a dot of the picture, or null; `placeOf(line, dot)`
    * where it stands in the window; `isIdle()` whether the run searches for nothing.
    */
@@ -113,11 +115,17 @@ export class Asking {
   #tellDot({ place }) {
     const { line, dot } = place, shown = this.#heard.colourAt(line, dot);
     if (!shown) return [element("p", {}, "The picture has no such dot.")];
-    const cheap = dotOfSeen(this.#seen, place), found = this.#foundThen() ?? cheap;
+    const found = this.#changed() ?? this.#foundThen() ?? dotOfSeen(this.#seen, place);
     // No cycle of a call draws a dot.
     if (found?.how === "now" && !this.#seen.session.isCall) this.#lookUp(place);
     if (found) return [this.#table(rowsOfDot(found, place, shown).slice(1), shown)];
     return [element("p", {}, "The registers as they stand display no dot there.")];
+  }
+
+  /** The dot as the step that is shown has changed it, if a search for that change leads here. */
+  #changed() {
+    const { after } = this.#seen, beam = this.#heard.beamAt(this.#words, this.#seen);
+    return beam && { state: after, beam, source: sourceAt(after.card, beam), how: "changed" };
   }
 
   /** The dot as it was drawn, if that is known of what is shown. */

@@ -1,7 +1,16 @@
-// A cycle of a byte as the page shows it: sentences about its address, and rows of eight bits for
-// each plane, stage after stage.
-import { FUNCTIONS } from "./cycle.js";
+// A write or a read of a byte as the page shows it: sentences, and rows of eight bits for each plane,
+// stage after stage. The stages are the adapter's (zak_explain_put, zak_explain_get).
+import { KIND } from "../script/steplist.js";
 import { hex } from "../common/bytes.js";
+
+const GRAPHICS = 0x3ce, DONT_CARE = 7;
+const PLANES = [0, 1, 2, 3], LAST_ADDRESS = 0xffffffff, CHAIN_4 = 8, ODD_EVEN_OFF = 4, ODD_EVEN = 16;
+/** The names of function select 0 to 3, and of its row. */
+const FUNCTIONS = ["replace", "AND", "OR", "XOR"];
+const FUNCTION_ROWS = ["data as it is", "data AND latch", "data OR latch", "data XOR latch"];
+/** What each write mode takes as data, in a few words. */
+const MODES = ["the byte rotated right, or set/reset where it is enabled", "the latches",
+  "a bit of the byte for each plane", "set/reset, with the rotated byte in the bit mask"];
 
 /** Eight bits with a blank in the middle, and the byte. */
 export function bitsText(byte) {
@@ -9,102 +18,141 @@ export function bitsText(byte) {
   return `${bits.slice(0, 4)} ${bits.slice(4)}`;
 }
 
-const range = ({ start, length }) => `${hex(start, 5)} to ${hex(start + length - 1, 5)}`;
+/** A script that reads address 0, which no window has: its refusal tells the window (ZAK_WHY_OUTSIDE_WINDOW). */
+const READS_OUTSIDE = Uint8Array.of(0x56, 0x47, 0x41, 0x53, 1, KIND.get, 0, 0, 0, 0);
+
+/** The first and the last address of the window of memory, as a card tells them. */
+function windowOf(card) {
+  const [, , first, last] = card.whyRefused(READS_OUTSIDE).numbers;
+  return { first, last };
+}
 
 /** How an address leads to an offset, in a sentence. */
-export function addressText({ address, place }) {
-  const at = hex(address, 5), window = `the window is ${range(place)}`;
-  if (!place.isDecoded) return `${at} is not decoded: ${place.why}; ${window}.`;
-  const { spread, offset } = place, isCut = offset !== place.place;
-  const cut = !isCut ? "" : spread === "chain 4" ? ", with its two low bits 0 by chain 4"
+function addressText(address, { inWindow, offset }, { registers: { seq }, window: { first, last } }) {
+  const cut = offset === inWindow ? "" : seq[4] & CHAIN_4 ? ", with its two low bits 0 by chain 4"
     : ", with bit 0 cleared by chain odd/even";
-  const reckoned = `${at} − ${hex(place.start, 5)} = ${hex(place.place, 4)}`;
-  return `${reckoned} in the window ${range(place)}: ` +
-    `offset ${hex(offset, 4)} of each plane${cut}.`;
+  return `${hex(address, 5)} − ${hex(first, 5)} = ${hex(inWindow, 4)} in the window ${hex(first, 5)} to ` +
+    `${hex(last, 5)}: offset ${hex(offset, 4)} of each plane${cut}.`;
 }
 
-/** Which planes an address reaches, in a sentence. */
-function reachText({ place, mapMask, planes }) {
-  const named = some => some.map(({ plane }) => plane).join(", ") || "none";
-  const by = { "chain 4": "Chain 4 picks plane", "odd/even": "Odd/even picks planes",
-    "all planes": "The address reaches planes" }[place.spread];
-  return `${by} ${named(planes.filter(one => one.isAddressed))}, the map mask ` +
-    `${hex(mapMask, 1)} lets through ${named(planes.filter(one => one.isMapped))}: ` +
-    `written are ${named(planes.filter(one => one.isReached))}.`;
+/** Which planes a write reaches, in a sentence. */
+function reachText({ planes }, { seq }) {
+  const by = seq[4] & CHAIN_4 ? "By chain 4 and the map mask" : seq[4] & ODD_EVEN_OFF ? "By the map mask"
+    : "By odd/even and the map mask", found = PLANES.filter(plane => planes >> plane & 1);
+  const written = !found.length ? "no plane is" : found.length > 1 ? `planes ${found.join(", ")} are`
+    : `plane ${found[0]} is`;
+  return `${by} ${hex(seq[2], 1)}, ${written} written.`;
 }
 
-/** What each write mode takes as data, in a few words. */
-const MODES = ["the byte rotated right, or set/reset where it is enabled", "the latches",
-  "a bit of the byte for each plane", "set/reset, with the rotated byte in the bit mask"];
+function writeSentences(value, stages, registers) {
+  const { writeMode, rotated, mask } = stages, { gfx } = registers, select = gfx[3] >> 3 & 3;
+  const told = [`Write mode ${writeMode}: ${MODES[writeMode]}.`, reachText(stages, registers)];
+  if (writeMode === 1) return told;
+  if (writeMode !== 2) told.push(`Byte ${hex(value, 2)} rotated right by ${gfx[3] & 7} is ${hex(rotated, 2)}.`);
+  const own = writeMode === 3 ? `, AND ${hex(rotated, 2)} is ${hex(mask, 2)}` : "";
+  return [...told, `Function ${select}: ${FUNCTIONS[select]}. Bit mask ${hex(gfx[8], 2)}${own}.`];
+}
 
-function writeSentences(cycle) {
-  const { mode, value, count, rotated, select, mask, bitMask } = cycle;
-  const told = [`Write mode ${mode}: ${MODES[mode]}.`, reachText(cycle)];
-  if (mode === 1) return told;
-  if (mode !== 2) {
-    told.push(`Byte ${hex(value, 2)} rotated right by ${count} is ${hex(rotated, 2)}.`);
-  }
-  const own = mode === 3 ? `, AND ${hex(rotated, 2)} is ${hex(mask, 2)}` : "";
-  told.push(`Function ${select}: ${FUNCTIONS[select]}. Bit mask ${hex(bitMask, 2)}${own}.`);
-  return told;
+/** What the data of a plane is in a write mode, in a few words. */
+function dataText(writeMode, plane, { gfx }) {
+  if (writeMode === 1) return "latch";
+  if (writeMode === 2) return `bit ${plane} of the byte`;
+  return writeMode === 3 || gfx[1] >> plane & 1 ? "set/reset" : "rotated byte";
 }
 
 /**
  * A row of stages: what it is, the eight bits of each plane (null for none), and which bits of them
  * are marked.
  */
-const row = (title, planes, bytes, marks = () => 0) => ({ title,
-  cells: planes.map(plane => {
-    const byte = bytes(plane);
-    return byte === null ? null : { byte, bits: bitsText(byte), marked: marks(plane) };
-  }) });
+const row = (title, byteOf, marksOf = () => 0) => ({ title, cells: PLANES.map(plane => {
+  const byte = byteOf(plane);
+  return byte === null ? null : { byte, bits: bitsText(byte), marked: marksOf(plane) };
+}) });
 
-/** The name of a function's row. */
-const FUNCTION_ROWS = ["data as it is", "data AND latch", "data OR latch", "data XOR latch"];
-
-function writeRows({ planes, mode, select }) {
-  const changes = ({ before, after }) => before ^ after;
-  const stages = mode === 1 ? [] : [
-    row(FUNCTION_ROWS[select], planes, ({ joined }) => joined),
-    row("mask, 0: latch", planes, ({ mask }) => mask)];
+function writeRows(stages, registers, latches) {
+  const { writeMode, data, combined, mask, planes, before, written } = stages;
+  const after = plane => (planes >> plane & 1 ? written : before)[plane];
+  const select = registers.gfx[3] >> 3 & 3;
   return [
-    ...mode === 1 ? [] : [row("data", planes, ({ data }) => data)],
-    row("latch", planes, ({ latch }) => latch),
-    ...stages,
-    row("to be stored", planes, ({ stored }) => stored),
-    row("byte before", planes, ({ before }) => before),
-    row("byte after", planes, ({ after }) => after, changes),
+    ...writeMode === 1 ? [] : [row("data", plane => data[plane])],
+    row("latch", plane => latches[plane]),
+    ...writeMode === 1 ? [] : [row(FUNCTION_ROWS[select], plane => combined[plane]), row("mask, 0: latch", () => mask)],
+    row("to be stored", plane => written[plane]),
+    row("byte before", plane => before[plane]),
+    row("byte after", after, plane => before[plane] ^ after(plane)),
   ];
 }
 
-function readSentences({ mode, picked, value }) {
-  const told = hex(value, 2);
-  if (mode) return [`Read mode 1: bits are 1 where each compared plane has its colour: ${told}.`];
-  return [`Read mode 0: plane ${picked.plane}, by ${picked.by}: ${told}.`];
+/** A write that is taken, in words and rows. `from` has { registers, latches, window } before it. */
+function writeTable(address, value, stages, from) {
+  const { registers, latches } = from;
+  const heads = PLANES.map(plane => ({ plane, isUsed: (stages.planes >> plane & 1) === 1,
+    source: dataText(stages.writeMode, plane, registers) }));
+  return { title: `Write of ${hex(value, 2)} to ${hex(address, 5)}`, heads,
+    sentences: [addressText(address, stages, from), ...writeSentences(value, stages, registers)],
+    rows: writeRows(stages, registers, latches) };
 }
 
-function readRows({ planes, mode }) {
-  const compared = mode ? [
-    row("colour compare", planes, one => (one.isCompared ? 255 * one.wanted : null)),
-    row("equal", planes, one => (one.isCompared ? one.equal : null))] : [];
-  return [row("byte", planes, ({ byte }) => byte), ...compared,
-    row("latch before", planes, ({ latch }) => latch),
-    row("latch after", planes, ({ after }) => after, ({ latch, after }) => latch ^ after)];
+/** What picks the plane of a read in read mode 0. */
+function pickedBy({ seq, gfx }) {
+  if (seq[4] & CHAIN_4) return "chain 4: the two low bits of the place in the window";
+  return gfx[5] & ODD_EVEN ? "odd/even: read map select bit 1, and bit 0 of the place in the window"
+    : "read map select";
+}
+
+function readSentence({ isCompare, plane, value }, registers) {
+  const told = hex(value, 2);
+  return isCompare ? `Read mode 1: bits are 1 where each compared plane has its colour: ${told}.`
+    : `Read mode 0: plane ${plane}, by ${pickedBy(registers)}: ${told}.`;
+}
+
+/** Of each plane that a read compares, where it has its colour: the read with this plane compared alone. */
+function equalPlanes(card, address, { gfx, gfxIndex }) {
+  card.write(GRAPHICS, DONT_CARE);
+  const found = PLANES.map(plane => {
+    if (!(gfx[DONT_CARE] >> plane & 1)) return null;
+    card.write(GRAPHICS + 1, 1 << plane);
+    return card.readStages(address).value;
+  });
+  card.write(GRAPHICS + 1, gfx[DONT_CARE]);
+  card.write(GRAPHICS, gfxIndex);
+  return found;
+}
+
+/** A read that is taken, in words and rows. */
+function readTable(address, stages, from) {
+  const { loaded, isCompare } = stages, { registers, latches, equal } = from, { gfx } = registers;
+  const isCompared = plane => gfx[DONT_CARE] >> plane & 1;
+  const heads = PLANES.map(plane => ({ plane, isUsed: isCompare ? isCompared(plane) === 1 : plane === stages.plane,
+    source: "" }));
+  const compared = isCompare ? [row("colour compare", plane =>
+    (isCompared(plane) ? 255 * (gfx[2] >> plane & 1) : null)), row("equal", plane => equal[plane])] : [];
+  return { title: `Read of ${hex(address, 5)}`, heads,
+    sentences: [addressText(address, stages, from), readSentence(stages, registers)],
+    rows: [row("byte", plane => loaded[plane]), ...compared, row("latch before", plane => latches[plane]),
+      row("latch after", plane => loaded[plane], plane => latches[plane] ^ loaded[plane])] };
+}
+
+/** The cycle of a byte on a card as it is, as a table; null where no memory answers. */
+function tableOf(card, { isWrite, address, value }) {
+  const stages = isWrite ? card.writeStages(address, value) : card.readStages(address);
+  if (!stages) return null;
+  const registers = card.registers(), from = { registers, latches: card.latches(), window: windowOf(card) };
+  if (isWrite) return writeTable(address, value, stages, from);
+  return readTable(address, stages, { ...from, equal: stages.isCompare ? equalPlanes(card, address, registers) : null });
 }
 
 /**
- * A cycle in words and rows: { title, sentences, heads, rows }; of one that is not decoded there
- * are no rows. A head tells of each plane whether it is written, and what its data is.
+ * The cycles of a memory step { name, place, value } in a state, two for a word, as tables: { title,
+ * sentences, heads, rows }. A head tells of each plane whether it takes part, and what its data is.
+ * None for a step that is refused.
  */
-export function tableOfCycle(cycle) {
-  const { kind, address, value, place } = cycle, isWrite = kind === "write";
-  const title = isWrite ? `Write of ${hex(value, 2)} to ${hex(address, 5)}`
-    : `Read of ${hex(address, 5)}`;
-  const sentences = [addressText(cycle)];
-  if (!place.isDecoded) return { title, sentences, heads: [], rows: [] };
-  sentences.push(...isWrite ? writeSentences(cycle) : readSentences(cycle));
-  const heads = cycle.planes.map(one => ({ plane: one.plane, isUsed: isWrite ? one.isReached
-    : cycle.mode === 1 ? one.isCompared : one.plane === cycle.picked.plane,
-  source: isWrite ? one.source : "" }));
-  return { title, sentences, heads, rows: isWrite ? writeRows(cycle) : readRows(cycle) };
+export function tablesOfStep(state, { name, place: address, value }) {
+  const card = state.scratch, isWrite = name.startsWith("put"), isWord = name.endsWith("w");
+  const first = tableOf(card, { isWrite, address, value: value & 255 });
+  if (!isWord || !first || address === LAST_ADDRESS) return first && !isWord ? [first] : [];
+  if (isWrite) card.put(address, value & 255);
+  else card.get(address);
+  const second = tableOf(card, { isWrite, address: address + 1, value: value >> 8 });
+  return second ? [first, second] : [];
 }

@@ -1,45 +1,18 @@
-// The search for the last step that changed a dot of the picture: one of its own bits, a register
-// that moves it or changes its look, its palette register, its entry of the DAC.
-import { BytesWatch, ColourWatch, mayWrite } from "../run/watching.js";
-import { FrameWalk } from "./walk.js";
+// The search for the last step that changed a dot of the picture. The page goes to the state in
+// which the dot was drawn, and asks the adapter there where the dot comes from (zak_explain_dot). It
+// then asks the same after each step before. So a step counts if it changes a byte, a register or a
+// colour that the drawn dot comes from, also while the picture shows another part of memory.
 import { KIND } from "../script/steplist.js";
 import { Search } from "../run/points.js";
 import { State } from "../module/state.js";
-import { placeInStruct, sizeOfStruct } from "../module/structs.js";
-import { bytesOfDot, explainDot, sourcesOf } from "./dot.js";
+import { dotAhead, sourceAt, steady } from "./way.js";
+import { colourBy, kindOf } from "./dotrows.js";
 import { hex } from "../common/bytes.js";
+import { sizeOfStruct } from "../module/structs.js";
 
-/**
- * The registers that a dot depends on, as bits of zak_registers' fields; all others show in no dot.
- */
-const SHOWN = { seq: { 1: 0x21, 3: 0x3f }, gfx: { 5: 0x40, 6: 0x01 }, attrIndex: 0x20,
-  dacMask: 0xff, crtc: { 0: 255, 1: 255, 6: 255, 7: 0x73, 8: 0x7f, 9: 0xdf, 10: 0x3f, 11: 0x1f,
-    12: 255, 13: 255, 14: 255, 15: 255, 18: 255, 19: 255, 20: 0x5f, 23: 0x60, 24: 255 } };
-/** Those that the adapter takes at a frame's first dot. */
-const START_REGISTERS = [8, 12, 13];
-const PORTS = [0x3c0, 0x3c5, 0x3c6, 0x3c9, 0x3cf, 0x3b5, 0x3d5];
-
-/**
- * Of each byte of zak_registers the bits that show in dots; with `taken` without those that a
- * frame's start takes.
- */
-function shownMask(taken) {
-  const mask = new Uint8Array(sizeOfStruct("zak_registers"));
-  const at = name => placeInStruct("zak_registers", name);
-  for (const [name, bits] of Object.entries(SHOWN)) {
-    if (typeof bits === "number") mask[at(name)] = bits;
-    else for (const [i, some] of Object.entries(bits)) mask[at(name) + Number(i)] = some;
-  }
-  mask.fill(255, at("attr"), at("attr") + 21);
-  for (const i of START_REGISTERS) if (taken) mask[at("crtc") + i] = 0;
-  return mask;
-}
-
-/** What a card's own calls read, as `explainDot` takes it. */
-export function sourcesOfCard(card) {
-  return { registers: card.registers(), byteAt: (plane, offset) => card.plane(plane, offset, 1)[0],
-    colourOf: entry => card.colour(entry) };
-}
+/** The steps that may change where a dot comes from; the others read, or let dots pass. */
+const WRITES = [KIND.out, KIND.outw, KIND.put, KIND.putw, KIND.int];
+const SOURCE_SIZE = sizeOfStruct("zak_dot_source");
 
 const TOLD_BY = { "screen off": "the screen is off",
   overscan: "overscan, since the palette is not shown", palette: "the palette", byte: "the byte" };
@@ -47,25 +20,26 @@ const TOLD_BY = { "screen off": "the screen is off",
 /**
  * What a dot is made of, as { name: value in words }; two dots are the same if all of these are.
  */
-export function partsOfDot(sources, told) {
-  if (!told) return { shown: "no dot" };
-  const { kind, text, way, byte, offset, dot, by, entry, colour } = told, { registers } = sources;
-  const parts = { shown: kind, offset: hex(offset, 4), "dot of its character": String(dot),
+export function partsOfDot(source) {
+  if (!source?.isDisplay) return { shown: "no dot" };
+  const kind = kindOf(source), by = colourBy(source), { dot, bytes } = source;
+  const parts = { shown: kind, offset: hex(source.address, 4), "dot of its character": String(dot),
     "colour by": TOLD_BY[by] };
-  if (text) {
-    Object.assign(parts, { character: hex(text.character, 2), attribute: hex(text.attribute, 2),
-      "glyph's offset": hex(text.glyphOffset, 4), "glyph's bit": String(text.isGlyph ? 1 : 0),
-      "dot is": text.isOn ? "ink" : "ground" });
+  if (kind === "text") {
+    Object.assign(parts, { character: hex(source.character, 2), attribute: hex(source.attribute, 2),
+      "glyph's offset": hex(source.glyphAddress, 4), "glyph's bit": String(source.isGlyphDot),
+      "dot is": source.isForeground ? "ink" : "ground" });
   }
-  if (kind === "16 colours") parts.bits = hex(way.four, 1);
-  if (byte !== null) parts.byte = hex(byte, 2);
-  if (way && by === "palette") {
-    Object.assign(parts, { "palette register": hex(way.enabled, 1),
-      "value of the palette register": hex(registers.attr[way.enabled], 2),
-      "colour's number": hex(way.number, 2) });
+  // Bits of planes that the palette does not see are no part of the dot.
+  if (kind === "16 colours") parts.bits = hex(source.paletteRegister, 1);
+  if (kind === "256 colours") parts.byte = hex(dot > 7 ? 0 : bytes[dot >> 1], 2);
+  if (by === "palette") {
+    Object.assign(parts, { "palette register": hex(source.paletteRegister, 1),
+      "value of the palette register": hex(source.paletteValue, 2),
+      "colour's number": hex(source.number, 2) });
   }
-  if (entry !== null) parts["entry of the DAC"] = hex(entry, 2);
-  return { ...parts, colour: colour.map(six => hex(six, 2)).join(" ") };
+  if (by !== "screen off") parts["entry of the DAC"] = hex(source.entry, 2);
+  return { ...parts, colour: source.colour.map(six => hex(six, 2)).join(" ") };
 }
 
 /** The parts from a dot's bits to its entry of the DAC: each of them follows from those before. */
@@ -85,104 +59,62 @@ export function differingParts(old, now) {
   return kept.map(name => `${name} ${old[name] ?? "none"} → ${now[name] ?? "none"}`);
 }
 
-/** Watches what a dot is made of: the dot as a frame with the registers of each state draws it. */
+/** Watches where the dot at a beam comes from. */
 class DotWatch {
-  /**
-   * `told` is the dot as it is made at last. `taken` has values of the registers that were taken at
-   * the first dot of its frame, for steps of that frame; null for the steps before.
-   */
-  constructor({ line, dot }, { sources, told }, taken) {
-    Object.assign(this, { line, dot, taken, frame: told.beam.frame });
-    this.bytes = bytesOfDot(sources, told).filter(({ bits }) => bits)
-      .map(({ plane, offset }) => new BytesWatch(1 << plane, offset));
-    this.colour = told.entry === null ? null : new ColourWatch(told.entry);
-    this.mask = shownMask(taken);
-    this.registers = new Uint8Array(this.mask.length);
+  /** The struct as the card told it last. */
+  #told = new Uint8Array(SOURCE_SIZE);
+
+  constructor(beam) {
+    this.beam = beam;
   }
 
-  mayChange(operation) {
-    return mayWrite(PORTS, operation) || this.bytes.some(watch => watch.mayChange(operation));
+  mayChange({ kind }) {
+    return WRITES.includes(kind);
   }
 
-  /** The card's sources, with the registers as they were taken at the frame's start. */
-  sources({ card }) {
-    const sources = sourcesOfCard(card);
-    for (const i of START_REGISTERS) if (this.taken) sources.registers.crtc[i] = this.taken[i];
-    return sources;
+  /** Asks before a step. */
+  start(scout) {
+    scout.card.placeBeam(steady(this.beam), scout.beam);
+    this.#isOther(scout);
+    this.old = this.#parts(scout);
   }
 
-  begin(scout) {
-    for (const watch of this.bytes) watch.start(scout);
-    this.colour?.start(scout);
+  #parts({ card }) {
+    return partsOfDot(sourceAt(card, this.beam));
   }
 
-  read(scout) {
-    const sources = this.sources(scout), walk = new FrameWalk(sources.registers).next(this.frame);
-    const beam = walk.place(this.line, this.dot);
-    return partsOfDot(sources, beam && explainDot(sources, beam));
-  }
-
-  /** Reads the registers; whether some that show in dots are others than before. */
-  isShownOther({ adapter, card, room }) {
-    const { mask, registers } = this;
-    adapter.calls.zak_read_registers(card.at, room);
-    const { bytes } = adapter;
+  /** Asks the card; whether it tells something else than before. */
+  #isOther({ adapter, card, room, beam }) {
+    adapter.calls.zak_explain_dot(card.at, beam, room);
+    const { bytes } = adapter, told = this.#told;
     let isOther = false;
-    for (let i = 0; i < mask.length; i++) {
-      const now = bytes[room + i] & mask[i];
-      if (now === registers[i]) continue;
-      registers[i] = now;
+    for (let at = 0; at < SOURCE_SIZE; at++) {
+      if (bytes[room + at] === told[at]) continue;
+      told[at] = bytes[room + at];
       isOther = true;
     }
     return isOther;
   }
 
-  /** Reads what is watched, before a step. */
-  start(scout) {
-    this.begin(scout);
-    this.isShownOther(scout);
-    this.old = this.read(scout);
-  }
-
-  /** Whether a step has changed something on which the dot may depend. */
-  isTouched(scout, operation) {
-    const { kind } = operation, touched = this.bytes.filter(watch => watch.mayChange(operation) &&
-      watch.isChanged(scout, operation)).length > 0;
-    const isColour = this.colour?.mayChange(operation) && this.colour.isChanged(scout, operation);
-    const isWrite = kind === KIND.put || kind === KIND.putw;
-    return (!isWrite && this.isShownOther(scout)) || touched || isColour || kind === KIND.int;
-  }
-
-  isChanged(scout, operation) {
-    if (!this.isTouched(scout, operation)) return false;
+  isChanged(scout) {
+    if (!this.#isOther(scout)) return false;
     const { old } = this;
-    this.old = this.read(scout);
+    this.old = this.#parts(scout);
     this.differing = differingParts(old, this.old);
     return this.differing.length > 0;
   }
 }
 
 /**
- * A dot as the beam draws it from a state on: in the frame under way, or in the next where it is
- * past.
- */
-export function dotAhead(state, { line, dot }) {
-  const sources = sourcesOf(state), { registers } = sources;
-  const walk = new FrameWalk(registers, state.beam, state.drawn);
-  const here = walk.place(line, dot), beam = here ?? walk.next().place(line, dot);
-  return beam && { sources, told: explainDot(sources, beam), isThisFrame: here !== null };
-}
-
-/**
- * A dot of what is seen, as cheaply as it is had: { sources, told, how }. `how` is "drawn" by the
- * last step, "ahead" if it is still to be drawn, or "now": it was drawn before, and this is told by
- * the registers as they stand. Null where no dot is.
+ * A dot of what is seen, as cheaply as it is had: { state, source, beam, how }. `how` is "drawn" by
+ * the last step, "ahead" if it is still to be drawn, or "now": it was drawn before, and this is told
+ * by the registers as they stand. Null where no dot is.
  */
 export function dotOfSeen({ before, after, picture, steps }, { line, dot }) {
   const isDrawn = picture.isWhole || dot < picture.drawn[line];
   const told = (state, how) => {
     const found = dotAhead(state, { line, dot });
-    return found && { ...found, how };
+    return found && { state, ...found, how };
   };
   if (!isDrawn) return told(after, "ahead");
   const isByLast = steps > 0 && (picture.isWhole || before.beam.frame !== after.beam.frame ||
@@ -192,30 +124,31 @@ export function dotOfSeen({ before, after, picture, steps }, { line, dot }) {
 
 /**
  * The search for the step that draws a dot, and then for the last step that changed it. `take` goes
- * on for some milliseconds: null while time is over, else { steps, differing, made, taken }, of which
- * the last two say how the dot was taken, or { ended: true }.
+ * on for some milliseconds: null while time is over, else { steps, differing, made }, the last of
+ * them the dot as it was drawn, or { ended: true, made }.
  */
 export class DotSearch {
   /** After how many steps the dot was drawn; null if it was not. */
   drawnBy = null;
-  /** The dot as it was drawn, as `dotAhead` tells it. */
+  /** The dot as it was drawn: { state, beam, source }; null if none is known. */
   made = null;
   search = null;
 
   /**
    * `place` is { line, dot }. `steps` are those after which the picture is seen. A dot that is
-   * drawn there was drawn by a step before; one that is not, or `isAhead`, is taken as it would be
-   * drawn from there on. With `isMadeOnly` the search ends with the step that drew it, as { made,
-   * drawnBy }. `told` is what a search told that found the call of whose cycles this session is: the
-   * dot is taken as it was there.
+   * drawn there was drawn by a step before; one that is not is taken as it would be drawn from there
+   * on. With `isMadeOnly` the search ends with the step that drew it, as { made, drawnBy }. `told` is
+   * what a search has told before: the dot is taken as it was there, and only steps count up to
+   * these.
    */
-  constructor(session, place, steps, { isDrawn, isAhead = false, isMadeOnly = false, told = null }) {
+  constructor(session, place, steps, { isDrawn = false, isMadeOnly = false, told = null } = {}) {
     this.session = session;
     this.place = place;
     this.steps = steps;
-    this.isDrawn = isDrawn && !isAhead;
+    this.isDrawn = isDrawn;
     this.isMadeOnly = isMadeOnly;
-    this.turns = told ? this.lastChange(told.made, steps, 0, told.taken) : this.find();
+    this.made = told?.made ?? null;
+    this.turns = this.made ? this.lastChange(this.made, steps) : this.find();
   }
 
   get looked() {
@@ -226,17 +159,14 @@ export class DotSearch {
     const until = performance.now() + milliseconds;
     while (performance.now() < until) {
       const { done, value } = this.turns.next();
-      if (done) return value ?? { ended: true };
+      if (done) return value ?? { ended: true, made: this.made };
     }
     return null;
   }
 
-  /**
-   * Goes through a search back among steps from `first` to `to`; after how many steps it has found
-   * one.
-   */
-  * back(point, to, first = 0) {
-    this.search = new Search(this.session, [point], to, true, true, first);
+  /** Goes back among the first steps to the last that meets a point; after how many steps that is. */
+  * back(point, to) {
+    this.search = new Search(this.session, [point], to, true, true);
     for (;;) {
       const { done, value } = this.search.turns.next();
       if (done) return value;
@@ -244,7 +174,7 @@ export class DotSearch {
     }
   }
 
-  /** The dot, and the number of steps before it was drawn. */
+  /** The state in which the dot was drawn, or from which it would be, and after how many steps. */
   * make() {
     const { session, place } = this;
     let at = this.steps;
@@ -253,35 +183,29 @@ export class DotSearch {
       if (drawn !== undefined) [this.drawnBy, at] = [drawn, drawn - 1];
     }
     while (session.scout.at !== at && !session.scout.seek(at, 8)) yield null;
-    const state = State.of(session.scout.card);
-    return { at, state, made: dotAhead(state, place) };
+    const state = State.of(session.scout.card), found = dotAhead(state, place);
+    return { at, made: found && { state, ...found } };
   }
 
   * find() {
-    const { at, state, made } = yield* this.make(), { place } = this, { beam } = state;
+    const { at, made } = yield* this.make();
     this.made = made;
     if (!made) return undefined;
     if (this.isMadeOnly) return { made, drawnBy: this.drawnBy };
-    const isWithin = made.isThisFrame && (beam.line || beam.character || beam.dot);
-    const first = isWithin ? (yield* this.back({ kind: "start" }, at)) ?? 0 : at;
-    if (isWithin) {
-      const found = yield* this.lastChange(made, at, first, state.registers.crtc.slice());
-      if (found) return found;
-    }
-    return yield* this.lastChange(made, first, 0, null);
+    return yield* this.lastChange(made, at);
   }
 
-  * lastChange(made, to, first, taken) {
-    const watch = new DotWatch(this.place, made, taken);
+  * lastChange(made, to) {
+    const watch = new DotWatch(made.beam);
     let differing = [];
     // The search meets steps forward from a checkpoint on, and the last of them counts.
     const point = { kind: "watch", watch: { mayChange: operation => watch.mayChange(operation),
-      start: scout => watch.start(scout), isChanged: (scout, operation) => {
-        const isChanged = watch.isChanged(scout, operation);
+      start: scout => watch.start(scout), isChanged: scout => {
+        const isChanged = watch.isChanged(scout);
         if (isChanged) ({ differing } = watch);
         return isChanged;
       } } };
-    const steps = yield* this.back(point, to, first);
-    return steps === undefined ? undefined : { steps, differing, made, taken };
+    const steps = yield* this.back(point, to);
+    return steps === undefined ? undefined : { steps, differing, made };
   }
 }

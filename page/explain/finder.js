@@ -7,7 +7,7 @@ import { grouped } from "../common/bytes.js";
 export class Finder {
   /** What was found last: { words, session, steps, text, isOlder, subject, told, isCall }. */
   found = null;
-  /** The subject's words and the session of a call in which nothing more was found. */
+  /** The subject's words, the session of a call in which nothing more was found, and what was told. */
   #ended = null;
   #runner;
   #heard;
@@ -30,19 +30,20 @@ export class Finder {
     const { seen, session, steps } = this.#runner, ended = this.#ended;
     if (!session || !seen || seen.session !== session) return;
     this.#ended = null;
-    if (ended?.words === subject.words && ended.session === session) return this.#findBefore(subject);
+    if (ended?.words === subject.words && ended.session === session) return this.#findBefore(subject, ended.told);
     const isAgain = this.found?.words === subject.words && this.found.steps === steps &&
       this.found.session === session;
     const { isDot, place } = subject, { isWhole, drawn } = seen.picture;
     const isDrawn = isDot && (isWhole || place.dot < drawn[place.line]);
-    this.#search(subject, subject.search(session, steps, isAgain, isDrawn), isAgain);
+    const again = isAgain ? this.found.told : null;
+    this.#search(subject, subject.search(session, steps, again, isDrawn), isAgain);
   }
 
   /** Goes on before the call whose cycles the page is in. */
-  #findBefore(subject) {
+  #findBefore(subject, told) {
     const { session: { call: { step } } } = this.#runner;
     this.#runner.leave({ steps: step });
-    this.#search(subject, subject.search(this.#runner.session, step, true, false), true);
+    this.#search(subject, subject.search(this.#runner.session, step, told, false), true);
   }
 
   /** Whether what was found is a call that is shown, of which a cycle is the one that was meant. */
@@ -65,11 +66,11 @@ export class Finder {
   #hear(subject, session, told, isAgain) {
     const { words, title } = subject, { steps, differing = [] } = told;
     const rebuilt = session.outline.head?.length ?? 0, isOlder = rebuilt > 0 && this.#heard.hasEarlier();
-    if (steps === undefined) return this.#hearNone(subject, session, isAgain, isOlder);
+    if (steps === undefined) return this.#hearNone(subject, session, { told, isAgain, isOlder });
     if (isOlder && steps <= rebuilt) {
       const text = `${title} was changed before these frames. Their first ${grouped(rebuilt)} steps rebuild ` +
         "what stood there.";
-      this.found = { words, session, steps, isOlder, text: text[0].toUpperCase() + text.slice(1) };
+      this.found = { words, session, steps, isOlder, told, text: text[0].toUpperCase() + text.slice(1) };
       return null;
     }
     const { outline } = session, isCall = outline.kinds[outline.entryOf(steps - 1)] === KIND.int;
@@ -79,7 +80,7 @@ export class Finder {
     return null;
   }
 
-  #hearNone({ words, title }, session, isAgain, isOlder) {
+  #hearNone({ words, title }, session, { told, isAgain, isOlder }) {
     const earlier = isAgain ? "earlier " : "";
     if (isOlder) {
       return this.#heard.older(`No step of these frames changed ${title}: it was changed before them, if at all.`);
@@ -87,7 +88,7 @@ export class Finder {
     if (!session.isCall) {
       return this.#heard.tell(`No ${earlier}step changed ${title}: it is as at power-on.`);
     }
-    this.#ended = { words, session };
+    this.#ended = { words, session, told };
     return this.#heard.tell(`No ${earlier}cycle of this call changed ${title}: it is as before the call. ` +
       "Ask again, or press C, and the search goes on before it.");
   }
@@ -100,6 +101,13 @@ export class Finder {
       this.found = null;
     }
     return found && found.session === session && found.steps === steps ? found.text : "";
+  }
+
+  /** The beam that draws a subject's dot, which a search has found changed at a step that is shown; else null. */
+  beamAt(words, { session, steps }) {
+    const { found } = this;
+    const isFound = found?.words === words && found.session === session && found.steps === steps;
+    return isFound ? found.told.made?.beam ?? null : null;
   }
 
   /** Whether what textAt tells of a step is that a change came before these frames. */

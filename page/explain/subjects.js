@@ -1,9 +1,10 @@
 // What the page can be asked about beside a dot: a byte, a register, a field, a colour, a cell, a
 // field of the BIOS data. Each is spelled in a few words, which stand in the document beside what
 // shows it ("byte 0 07CA"), and which watches keep.
-import { DotSearch, dotAhead } from "./dotsearch.js";
+import { DotSearch } from "./dotsearch.js";
 import { GROUPS, fieldMask, fieldValue } from "../module/registers.js";
 import { Search } from "../run/points.js";
+import { dotAhead } from "./way.js";
 import { hex } from "../common/bytes.js";
 
 /** The fields of the BIOS data: their names in `State.bda`, and how the page calls them. */
@@ -20,7 +21,7 @@ const coloursText = colour => colour.map(six => hex(six, 2)).join(" ");
 /** A subject that some points watch; `value` tells it of a state. */
 function pointed(title, points, value) {
   return { title, points, value, isDot: false,
-    search: (session, steps, isAgain) => new Search(session, points, steps, true, !isAgain),
+    search: (session, steps, again) => new Search(session, points, steps, true, again === null),
     within: session => new Search(session, points, session.length, true, true) };
 }
 
@@ -98,10 +99,11 @@ function dotSubject(lineText, dotText) {
   return { title: `dot ${place.dot} of line ${place.line}`, points: [], isDot: true, place,
     value: state => {
       const made = dotAhead(state, place);
-      return made ? coloursText(made.told.colour) : "no dot";
+      return made ? coloursText(made.source.colour) : "no dot";
     },
-    search: (session, steps, isAgain, isDrawn) => new DotSearch(session, place,
-      isAgain ? steps - 1 : steps, { isDrawn, isAhead: isAgain }),
+    search: (session, steps, again, isDrawn) => (again
+      ? new DotSearch(session, place, steps - 1, { told: again })
+      : new DotSearch(session, place, steps, { isDrawn })),
     within: (session, told) => new DotSearch(session, place, session.length, { told }) };
 }
 
@@ -110,10 +112,10 @@ const MAKERS = { byte: byteSubject, register: registerSubject, field: fieldSubje
   source: () => singleSubject("source"), dacmask: () => singleSubject("dacmask") };
 
 /**
- * What some words name: { words, title, points, isDot, value(state), search(session, steps,
- * isAgain, isDrawn), within(session, told) }; null where they name nothing. The search goes back from
- * the step that is shown, which counts too unless `isAgain`. `within` searches the cycles of a call
- * that a search has found, as it told.
+ * What some words name: { words, title, points, isDot, value(state), search(session, steps, again,
+ * isDrawn), within(session, told) }; null where they name nothing. The search goes back from the step
+ * that is shown, which counts too unless `again` is what the search has told that has found it; null
+ * for a first one. `within` searches the cycles of a call that a search has found, as it told.
  */
 export function subjectOf(words) {
   const [name, ...rest] = words.split(" ");

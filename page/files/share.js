@@ -4,7 +4,7 @@ import { MOST_BYTES } from "../script/grammar.js";
 import { Trouble } from "../common/trouble.js";
 import { base64OfBytes, bytesOfBase64, counted, grouped, hex, throughStream }
   from "../common/bytes.js";
-import { encodingTrouble } from "../script/reasons.js";
+import { encodingTrouble } from "../script/foreign.js";
 import { isReport } from "../run/report.js";
 import { isSavedRun } from "../machine/savedrun.js";
 import { reasonOfBytes } from "../script/faults.js";

@@ -3,7 +3,7 @@
 import { PORTS, groupAt } from "./ports.js";
 import { BLOCK, CALL_REGISTERS, SHOWN } from "../script/grammar.js";
 import { STEPS } from "./steps.js";
-import { SERVICE_ANCHORS } from "../script/refusals.js";
+import { SERVICE_ANCHORS } from "./services.js";
 import { hex } from "../common/bytes.js";
 import { serviceOf } from "./telling.js";
 

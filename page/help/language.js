@@ -2,7 +2,7 @@
 // script.
 import { STEPS, stepOf } from "./steps.js";
 import { byId, element, idOf, pageLink } from "../common/dom.js";
-import { wordsIn } from "../script/reasons.js";
+import { wordsIn } from "../script/words.js";
 
 /**
  * The panel. `insert(text)` puts lines into the script at the caret; `base` is where the pages lie.

@@ -3,7 +3,7 @@
 import { Recording, judgedRecording } from "./recording.js";
 import { Session } from "../run/session.js";
 import { Trouble } from "../common/trouble.js";
-import { rebuilding, statesOf } from "./rebuilding.js";
+import { rebuildingLines } from "./rebuilt.js";
 
 /** The cycles and frames that a window has at most, unless its last frame alone has more. */
 const WINDOW_CYCLES = 200000, WINDOW_FRAMES = 70, MOST_WINDOW = 1000000;
@@ -15,7 +15,6 @@ export class Paused {
   #live;
   #adapter;
   #fonts;
-  #states;
   /** Cycles of the display and the time when the window begins; and the moment of its end: see Machine.moment. */
   #cycle = 0;
   #beginTime = 0;
@@ -25,7 +24,6 @@ export class Paused {
     this.#live = live;
     this.#adapter = adapter;
     this.#fonts = fonts;
-    this.#states = statesOf(adapter, fonts);
   }
 
   get #machine() {
@@ -50,7 +48,7 @@ export class Paused {
     const { snapshots } = this.#live, before = snapshots.findLast(({ frames }) => frames < frame) ?? snapshots.first;
     const { state, time } = machine.runWindow(before, frame, this.#end);
     this.#beginTime = time;
-    this.recording = new Recording(rebuilding(state, this.#states), machine);
+    this.recording = new Recording(rebuildingLines(this.#adapter, this.#fonts, state), machine);
     this.#cycle = this.#end.cycles - this.recording.words.length / 4;
     return new Session(this.#adapter, this.#fonts, "", judgedRecording(this.#adapter, this.recording));
   }

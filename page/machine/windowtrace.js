@@ -3,15 +3,16 @@
 import { LEAST_PAUSE, TimingRegisters } from "../files/pauses.js";
 import { Session } from "../run/session.js";
 import { Trouble } from "../common/trouble.js";
-import { cyclesBetween } from "./rebuilding.js";
 import { grouped, hex } from "../common/bytes.js";
 import { judgedRecording } from "./recording.js";
+import { Operations } from "../run/scout.js";
+import { cyclesOfCall, cyclesTo } from "./rebuilt.js";
 
 /** The cursor and blinking text go by the number of a frame modulo this. */
 const FRAMES = 32;
 const MISC_READ = 0x3cc, LEAST = Number(LEAST_PAUSE), MILLION = 1000000;
-/** Each call takes two states of the adapter, so there may be so many. */
-const MOST_CALLS = 2000;
+/** Each call takes two states of the adapter, so there may be so many; and all may make so many cycles. */
+const MOST_CALLS = 2000, MOST_CYCLES = 1000000;
 const HEAD = ["; The last frames of a machine: TIME r|w p|m ADDRESS VALUE SIZE, of microseconds.",
   "; The first cycles make the state with which they begin. What the video BIOS did stands as cycles at one moment.",
   "; A read of port 3CC passes each frame in which nothing else happens.", ""];
@@ -78,9 +79,9 @@ class TraceWriter {
       `${hex(address, isPort ? 3 : 5)} ${told} ${isWord ? 2 : 1}`);
   }
 
-  /** Cycles at one moment, as cyclesBetween tells them. */
-  addAll(lines) {
-    for (const line of lines) this.add(...line.split(" ; = "));
+  /** Cycles at one moment: { line, read } each. */
+  addAll(cycles) {
+    for (const { line, read } of cycles) this.add(line, read);
   }
 
   passFrames(count, misc) {
@@ -109,6 +110,18 @@ function checkCalls(recording) {
     `${grouped(MOST_CALLS)}. Go on, and pause it where it calls less.`);
 }
 
+function checkCycles(made) {
+  if (made <= MOST_CYCLES) return;
+  throw new Trouble(`The calls of the video BIOS in these frames make more than ${grouped(MOST_CYCLES)} cycles, ` +
+    "and a trace may have no more of them. Go on, and pause it where it calls less.");
+}
+
+/** The cycles of the call that a step of a session makes. */
+function called(session, step, before) {
+  const script = session.pieces.bytes(session.outline.entryOf(step), 1, 1);
+  return cyclesOfCall(before, new Operations(script, 1).call(0));
+}
+
 /** The trace of a recording whose session begins at power-on. */
 export function traceOfRecording(recording, adapter, fonts) {
   checkCalls(recording);
@@ -119,16 +132,17 @@ export function traceOfRecording(recording, adapter, fonts) {
   };
   try {
     const first = recording.head.length, begin = stateAt(first);
-    let { misc } = begin.registers;
-    writer.addAll(cyclesBetween(stateAt(0), begin));
+    let { misc } = begin.registers, made = 0;
+    writer.addAll(cyclesTo(adapter, fonts, begin.bytes));
     writer.passFrames(begin.beam.frame % FRAMES, misc);
     for (const { step, entry } of stepsFrom(recording, first)) {
       const name = recording.nameOf(entry), words = recording.wordsOf(entry);
       if (name === "advance") writer.pass(Number(words.slice(8)), misc);
       else if (name === "int") {
-        const before = stateAt(step), after = stateAt(step + 1);
-        ({ misc } = after.registers);
-        writer.addAll(cyclesBetween(before, after));
+        const cycles = called(session, step, stateAt(step));
+        checkCycles(made += cycles.length);
+        writer.addAll(cycles);
+        ({ misc } = stateAt(step + 1).registers);
       } else writer.add(words, recording.expectedOf(entry) ?? (name.endsWith("w") ? "FFFF" : "FF"));
       if (/^out 3C2/.test(words)) misc = parseInt(words.slice(8), 16);
     }

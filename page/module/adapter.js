@@ -3,7 +3,7 @@
 import { MOST_BYTES } from "../script/grammar.js";
 import { Trouble } from "../common/trouble.js";
 import { grouped } from "../common/bytes.js";
-import { readStruct, sizeOfStruct } from "./structs.js";
+import { fieldReader, placeInStruct, readStruct, sizeOfStruct, writeStruct } from "./structs.js";
 
 /** The most lines of a picture, and the most dots of a line. */
 export const HIGHEST = 1024, WIDEST = 2304;
@@ -21,7 +21,11 @@ const AHEAD = 2;
 export const STATUS_NO_ROOM = 25;
 /** A call answers so if what it would write is longer than a script may be. */
 export const STATUS_TOO_LONG = 106;
-const STATUS_MEMORY = 23, STATUS_BAD_LINE = 107;
+const STATUS_MEMORY = 23, STATUS_BAD_ARGUMENT = 26, STATUS_BAD_LINE = 107;
+/** A card answers so if the steps that it tries lead to another state. */
+const STATUS_NOT_REBUILT = 36;
+/** The most bytes of a sentence about a step that is refused, and about a text. */
+const MOST_REASON_TEXT = 160, MOST_MISTAKE_TEXT = 256;
 /** The room for a list of cycles, before a call tells that it needs more. */
 const FIRST_LIST = 1 << 21;
 const NO_MEMORY = "The module has no memory left for this.";
@@ -134,6 +138,27 @@ export class Adapter {
     return { bytes, line: status ? this.number(1) : 0 };
   }
 
+  /**
+   * What is wrong in a text that the module does not assemble (zak_explain_text): { line, start,
+   * length, kind, sentence }, the line's number from 1, or 0 if it is no line's, and the part of
+   * the line in bytes. Null for a text that spells a script.
+   */
+  mistakeIn(text) {
+    const given = this.given("text", text), size = sizeOfStruct("zak_mistake");
+    const room = this.room("mistake", size), words = this.room("sentence", MOST_MISTAKE_TEXT);
+    const status = this.calls.zak_explain_text(given.at, given.length, room.at, words.at, MOST_MISTAKE_TEXT,
+      this.lengths.at);
+    if (status === STATUS_MEMORY) throw new Trouble(NO_MEMORY);
+    if (status) throw new Trouble(`The module answers ${status} to this text.`);
+    const told = readStruct("zak_mistake", this.bytes.subarray(room.at, room.at + size));
+    return told.kind ? { ...told, sentence: this.sentence(words) } : null;
+  }
+
+  /** A sentence that a call has written, with its length. */
+  sentence(room) {
+    return new TextDecoder().decode(this.copied(room, this.number(0)));
+  }
+
   /** The text of the script that some bytes are: { status, text, place }. */
   printed(script) {
     const given = this.given("script", script), lengths = this.lengths.at;
@@ -177,6 +202,7 @@ function tooLong(length) {
 export class Card {
   constructor(adapter, fonts) {
     this.adapter = adapter;
+    this.fonts = fonts;
     this.at = adapter.taken(CARD_SIZE);
     adapter.bytes.fill(0, this.at, this.at + CARD_SIZE);
     const font = adapter.given("fonts", fonts);
@@ -218,6 +244,123 @@ export class Card {
     const { at: call } = adapter.given("registers", registers), length = adapter.lengths.at;
     return adapter.written("cycles", FIRST_LIST, room => adapter.calls.zak_cycles(card, call, given.at,
       given.length, room.at, room.length, length));
+  }
+
+  /** Writes a byte to a port, as a program does; whether it was taken. */
+  write(port, value) {
+    return this.adapter.calls.zak_out(this.at, port, value) === 0;
+  }
+
+  /** Reads a byte from a port, as a program does. */
+  read(port) {
+    const { adapter } = this, room = adapter.room("struct", 1024);
+    adapter.calls.zak_in(this.at, port, room.at);
+    return adapter.bytes[room.at];
+  }
+
+  /** Writes a byte to an address, and reads one. */
+  put(address, value) {
+    this.adapter.calls.zak_put(this.at, address, value);
+  }
+
+  get(address) {
+    const { adapter } = this, room = adapter.room("struct", 1024);
+    adapter.calls.zak_get(this.at, address, room.at);
+    return adapter.bytes[room.at];
+  }
+
+  /** Lets so many dots pass. */
+  advance(dots) {
+    const status = this.adapter.calls.zak_advance(this.at, dots);
+    if (status) throw new Trouble(`The module answers ${status} to an advance.`);
+  }
+
+  /**
+   * Why the card, as it is, refuses a step of a script (zak_explain_step): { status, kind, numbers,
+   * isHigh, sentence }; null if it does the step. `script` has the bytes, and `step` counts from 0.
+   */
+  whyRefused(script, step = 0) {
+    const { adapter } = this, { calls, lengths: { at: lengths } } = adapter, given = adapter.given("steps", script);
+    const size = sizeOfStruct("zak_reason"), room = adapter.room("reason", size);
+    const words = adapter.room("sentence", MOST_MISTAKE_TEXT);
+    const status = calls.zak_explain_step(this.at, given.at, given.length, step, room.at, words.at,
+      MOST_REASON_TEXT, lengths, lengths + 8);
+    if (status === STATUS_MEMORY) throw new Trouble(NO_MEMORY);
+    if (status) throw new Trouble(`The module answers ${status} to a step that it has read before.`);
+    const told = readStruct("zak_reason", adapter.bytes.subarray(room.at, room.at + size));
+    return told.status ? { ...told, sentence: adapter.sentence(words) } : null;
+  }
+
+  /**
+   * Where the colour of the dot at a beam comes from, by the registers and the memory as they are
+   * (zak_explain_dot), by the names of the struct; `colour` is a list. Null for a beam that no
+   * registers lead to.
+   */
+  dotSource(beam) {
+    const { adapter } = this, place = this.placeBeam(beam), size = sizeOfStruct("zak_dot_source");
+    const room = adapter.room("source", size);
+    const status = adapter.calls.zak_explain_dot(this.at, place, room.at);
+    if (status === STATUS_BAD_ARGUMENT) return null;
+    if (status) throw new Trouble(`The module answers ${status} to zak_explain_dot.`);
+    const told = readStruct("zak_dot_source", adapter.bytes.subarray(room.at, room.at + size));
+    return { ...told, colour: Array.from(told.colour) };
+  }
+
+  /**
+   * The same of many dots of a line, of each a list of some fields of one number, by their names;
+   * null for a beam that no registers lead to. `dots` is a list of [character, dot], whose beam is
+   * otherwise this one.
+   */
+  dotFields(beam, dots, names) {
+    const { adapter, at: card } = this, { calls } = adapter, place = this.placeBeam(beam);
+    const { at: room } = adapter.room("source", sizeOfStruct("zak_dot_source")), { view } = adapter;
+    const [character, dot] = ["character", "dot"].map(name => place + placeInStruct("zak_beam", name));
+    const reads = names.map(name => fieldReader("zak_dot_source", name, room));
+    return dots.map(([own, within]) => {
+      view.setUint16(character, own, true);
+      view.setUint16(dot, within, true);
+      return calls.zak_explain_dot(card, place, room) ? null : reads.map(read => read(view));
+    });
+  }
+
+  /** Writes a beam into the module's memory, to a place that is given or its own; answers the place. */
+  placeBeam(beam, place = this.adapter.room("beam", sizeOfStruct("zak_beam")).at) {
+    const { bytes } = this.adapter;
+    writeStruct("zak_beam", beam, bytes.subarray(place, place + sizeOfStruct("zak_beam")));
+    return place;
+  }
+
+  /**
+   * What a write of a byte does on its way (zak_explain_put), or a read of one (zak_explain_get), by
+   * the names of the struct; null if no memory answers at the address. The card stays as it is.
+   */
+  writeStages(address, value) {
+    return this.stages("zak_write_stages", "zak_explain_put", address, value);
+  }
+
+  readStages(address) {
+    return this.stages("zak_read_stages", "zak_explain_get", address);
+  }
+
+  stages(name, call, ...cycle) {
+    const { adapter } = this, size = sizeOfStruct(name), room = adapter.room("struct", 1024);
+    if (adapter.calls[call](this.at, ...cycle, room.at)) return null;
+    return readStruct(name, adapter.bytes.subarray(room.at, room.at + size));
+  }
+
+  /**
+   * The bytes of a script that leads from power-on to the card's state, with the same fonts
+   * (zak_rebuild): { script, areDotsOther }, the latter if the frame under way was drawn otherwise. A
+   * Trouble tells that no such script was found.
+   */
+  rebuilt() {
+    const { adapter } = this, lengths = adapter.lengths.at;
+    const { status, bytes } = adapter.written("rebuilt", FIRST_LIST, room =>
+      adapter.calls.zak_rebuild(this.at, room.at, room.length, lengths, lengths + 8));
+    if (!status) return { script: bytes, areDotsOther: adapter.bytes[lengths + 8] !== 0 };
+    throw new Trouble(status === STATUS_NOT_REBUILT ? "No steps from power-on are known that lead to this state."
+      : status === STATUS_TOO_LONG ? "The steps that rebuild this state would be too many."
+        : `The module answers ${status} to zak_rebuild.`);
   }
 
   /** What a call writes into a struct of the header; its other arguments stand before that. */

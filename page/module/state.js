@@ -1,7 +1,7 @@
 // The state of a card: what the module's readers tell of it, and its saved bytes, in which planes,
 // the DAC and the dots drawn so far stand (docs/STATE.md); and what follows from registers.
 // page/tests/state.mjs holds each of them to the module's own calls.
-import { FIRST_STATE, HIGHEST, PLANE_LENGTH } from "./adapter.js";
+import { Card, FIRST_STATE, HIGHEST, PLANE_LENGTH } from "./adapter.js";
 
 const AT = { dac: 101, planes: 894, drawn: 263038 };
 // The clocks that bits 3 and 2 of miscellaneous output select, in dots a second.
@@ -12,22 +12,58 @@ export function drawnDots(bytes, line) {
   return bytes[AT.drawn + 2 * line] | bytes[AT.drawn + 2 * line + 1] << 8;
 }
 
+/** Of each module the card that is asked about states, and the state in which it is. */
+const asked = new WeakMap();
+
+/** Opens the card that is asked about states of a module, unless it is open. */
+export function openAsked(adapter, fonts) {
+  if (!asked.has(adapter)) asked.set(adapter, { card: new Card(adapter, fonts), state: null });
+  return asked.get(adapter);
+}
+
 /** A state, by name. */
 export class State {
+  #home;
+
   /** The state of a card as it is. */
   static of(card) {
     const { rows, ...beam } = card.beam();
     return new State(card.save(), { registers: card.registers(), latches: card.latches(), beam,
-      bda: card.bda() });
+      bda: card.bda() }, card);
   }
 
-  /** The saved bytes, and the registers, latches, beam and BIOS data that the card tells. */
-  constructor(bytes, { registers, latches, beam, bda }) {
+  /**
+   * The saved bytes, the registers, latches, beam and BIOS data that a card tells, and `home`, the
+   * card's { adapter, fonts }.
+   */
+  constructor(bytes, { registers, latches, beam, bda }, { adapter, fonts }) {
     this.bytes = bytes;
     this.registers = registers;
     this.latches = latches;
     this.beam = beam;
     this.bda = bda;
+    this.#home = { adapter, fonts };
+  }
+
+  /**
+   * A card in this state, for questions that change nothing. All states of a module share one: it
+   * is this state's until another one is asked.
+   */
+  get card() {
+    const { adapter, fonts } = this.#home;
+    const found = openAsked(adapter, fonts);
+    if (found.state === this) return found.card;
+    found.state = null;
+    found.card.restore([this.bytes]);
+    found.state = this;
+    return found.card;
+  }
+
+  /** The same card, for steps: whoever asks next brings it back. */
+  get scratch() {
+    const { card } = this;
+    openAsked(this.#home.adapter).state = null;
+    return card;
   }
 
   part(at, length) {
@@ -58,6 +94,11 @@ export class State {
     return new Uint16Array(this.bytes.slice(AT.drawn, AT.drawn + 2 * HIGHEST).buffer);
   }
 
+  /** How many dots of a line of the frame under way are drawn so far. */
+  drawnOf(line) {
+    return line < HIGHEST ? drawnDots(this.bytes, line) : 0;
+  }
+
   /** Whether a dot of the frame under way is drawn. */
   get isBegun() {
     return this.bytes.length > FIRST_STATE;
@@ -85,32 +126,10 @@ export function frameSpeed(registers) {
   return clock ? { dots: dots * lines, rate: clock / (registers.seq[1] & 8 ? 2 : 1) } : null;
 }
 
-/**
- * The dots and the lines that are displayed, line compare, and how lines make rows of characters.
- */
-export function windowShape(registers) {
-  const { crtc } = registers, bits = (eight, nine) => ((crtc[7] >> eight & 1) << 8) +
-    ((crtc[7] >> nine & 1) << 9);
-  return {
-    characters: Math.min(crtc[1] + 1, crtc[0] + 5),
-    lines: Math.min(crtc[18] + bits(1, 6) + 1, frameShape(registers).lines),
-    compare: crtc[24] + ((crtc[7] >> 4 & 1) << 8) + ((crtc[9] >> 6 & 1) << 9),
-    rowLines: (crtc[9] & 31) + 1, isDoubled: crtc[9] >> 7 === 1, pitch: 2 * crtc[19],
-    start: (256 * crtc[12] + crtc[13] + (crtc[8] >> 5 & 3)) & 65535,
-  };
-}
-
-/** The counter of a character of a line that begins with the counter `base` (docs/RASTER.md). */
-export function counterOf(base, character) {
-  return base + character & 65535;
-}
-
-/** The place in each plane at which a counter's bytes stand (docs/RASTER.md). */
-export function fetchAddress(registers, counter) {
-  const { crtc } = registers;
-  if (crtc[20] & 64) return 4 * counter & 65535;
-  if (crtc[23] & 64) return counter;
-  return 2 * counter & 65534 | counter >> (crtc[23] & 32 ? 15 : 13) & 1;
+/** How many lines a row of characters has, each of them twice or not, and how far rows are apart. */
+export function rowShape({ crtc }) {
+  return { lines: (crtc[9] & 31) + 1, isDoubled: crtc[9] >> 7 === 1, pitch: 2 * crtc[19],
+    start: (256 * crtc[12] + crtc[13] + (crtc[8] >> 5 & 3)) & 65535 };
 }
 
 /** How many bytes of a plane lead from a row to the next: 0 where the offset register is. */
@@ -120,17 +139,10 @@ export function rowBytes(registers) {
 }
 
 /**
- * The way of four bits through plane enable, palette and colour select: { four, enabled, number }.
- */
-export function paletteWay({ attr }, four) {
-  const enabled = four & attr[18] & 15, own = attr[enabled], select = attr[20];
-  const low = attr[16] & 128 ? own & 15 | (select & 3) << 4 : own;
-  return { four, enabled, number: low | (select & 12) << 4 };
-}
-
-/**
  * The entry of the DAC that four bits of a dot pick (docs/REGISTERS.md, "Attribute controller").
  */
-export function dacEntry(registers, four) {
-  return paletteWay(registers, four).number & registers.dacMask;
+export function dacEntry({ attr, dacMask }, four) {
+  const own = attr[four & attr[18] & 15], select = attr[20];
+  const low = attr[16] & 128 ? own & 15 | (select & 3) << 4 : own;
+  return (low | (select & 12) << 4) & dacMask;
 }

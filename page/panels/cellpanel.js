@@ -1,8 +1,7 @@
 // The cells of text that the adapter shows, with their characters' glyphs in plane 2.
 import { LETTERS_437 } from "../module/codepage.js";
-import { characterWidth, counterOf, dacEntry, fetchAddress, windowShape } from "../module/state.js";
-import { displayedLines } from "../explain/walk.js";
-import { glyphPlace, mapOf } from "../explain/dot.js";
+import { characterWidth, dacEntry } from "../module/state.js";
+import { textRows } from "../explain/frame.js";
 import { element, setAll, setText } from "../common/dom.js";
 import { hex, sameWords, wordsOfBytes } from "../common/bytes.js";
 import { widened } from "../picture/png.js";
@@ -15,33 +14,14 @@ const CURSOR = 1 << 16, CHANGED = 1 << 17;
 // The colours of a cell whose own are alike, so that its character can be read.
 const ALIKE = [0xff909090, 0xff303030];
 
-/** The rows of text of a frame: the counter of the first cell of each, and how many scan lines it has. */
-function textRows(registers) {
-  const rows = [];
-  let last = null;
-  for (const { base, scan } of displayedLines(registers)) {
-    if (!last || base !== last.base || scan < last.lines - 1) rows.push(last = { base, lines: 0 });
-    last.lines = Math.max(last.lines, scan + 1);
-  }
-  return rows;
-}
-
-/** The cells of a state: rows of { character, attribute, address, isCursor }. */
+/** The cells of a state: rows of { character, attribute, address, glyph, isCursor }. */
 export function cellsOf(state) {
-  const { registers } = state, { characters } = windowShape(registers), { crtc } = registers;
-  const cursor = crtc[10] & 32 ? -1 : 256 * crtc[14] + crtc[15],
-    [codes, attributes] = [state.plane(0), state.plane(1)];
-  return textRows(registers).map(({ base, lines }) =>
-    ({ lines, cells: Array.from({ length: characters }, (_, column) => {
-    const counter = counterOf(base, column), address = fetchAddress(registers, counter);
-    return { character: codes[address], attribute: attributes[address], address,
-      isCursor: counter === cursor };
-  }) }));
+  const { crtc } = state.registers, cursor = crtc[10] & 32 ? -1 : 256 * crtc[14] + crtc[15];
+  return textRows(state).map(({ lines, cells }) =>
+    ({ lines, cells: cells.map(cell => ({ ...cell, isCursor: cell.counter === cursor })) }));
 }
 
-function drawCell(words, width, left, top, lines, { character, attribute },
-  { glyphs, colours, hasBlink, maps }) {
-  const glyph = glyphPlace(maps[attribute >> 3 & 1], character, 0);
+function drawCell(words, width, left, top, lines, { attribute, glyph }, { glyphs, colours, hasBlink }) {
   const [own, ground] = [colours[attribute & 15], colours[attribute >> 4 & (hasBlink ? 7 : 15)]];
   const [ink, paper] = own === ground ? ALIKE : [own, ground];
   for (let y = 0; y < lines; y++) {
@@ -52,14 +32,13 @@ function drawCell(words, width, left, top, lines, { character, attribute },
 
 /** What the drawing of cells takes from the registers. */
 function cellColours(state) {
-  const { registers } = state, select = registers.seq[3];
+  const { registers } = state;
   const word = four => {
     const [red, green, blue] = state.colour(dacEntry(registers, four)).map(widened);
     return 0xff000000 | blue << 16 | green << 8 | red;
   };
   return { glyphs: state.plane(2), colours: Array.from({ length: 16 }, (_, four) => word(four)),
-    hasBlink: Boolean(registers.attr[16] & 8),
-    maps: [0, 8].map(attribute => mapOf(select, attribute)) };
+    hasBlink: Boolean(registers.attr[16] & 8), maps: registers.seq[3] };
 }
 
 /** The panel of cells, whose canvas is painted where a cell differs from what it shows. */
@@ -108,7 +87,7 @@ export class CellPanel {
   /** Whether all cells are to be painted: rows, colours or glyphs are not those of what is painted. */
   isOther(drawing) {
     const { colours, hasBlink, maps } = drawing, { width, height } = this.canvas;
-    const look = [width, height, ...this.rows.map(row => row.lines), ...colours, hasBlink, ...maps].join();
+    const look = [width, height, ...this.rows.map(row => row.lines), ...colours, hasBlink, maps].join();
     const glyphs = wordsOfBytes(drawing.glyphs);
     const isSame = look === this.look && sameWords(glyphs, this.glyphs);
     Object.assign(this, { look, glyphs });

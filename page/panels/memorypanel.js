@@ -4,7 +4,7 @@ import { counted, differingWord, grouped, hex, wordsOfBytes } from "../common/by
 import { changedPlanes } from "../run/changes.js";
 import { isWritten } from "../common/rows.js";
 import { rowBytes } from "../module/state.js";
-import { shownBytes } from "../explain/walk.js";
+import { shownBytes } from "../explain/frame.js";
 
 const PLANE_LENGTH = 65536, WORDS = PLANE_LENGTH / 4, NOTHING = new Uint8Array(PLANE_LENGTH);
 const WIDEST_PITCH = 2040, HEX_ROWS = 16, HEX_COLUMNS = 16, USUAL_PITCH = 80;
@@ -251,8 +251,9 @@ export class MemoryPanel {
     this.seen = seen;
     this.pitch = own || USUAL_PITCH;
     // Where they don't change, they stay the same list: then bitmaps need not look through them.
-    const key = registers.crtc.join();
-    if (key !== this.shownBy) Object.assign(this, { shownBy: key, shown: shownBytes(registers) });
+    const { crtc, seq, attr, gfx } = registers;
+    const key = [...crtc, seq[1], attr[16], attr[19], gfx[5] & 64, gfx[6] & 1].join();
+    if (key !== this.shownBy) Object.assign(this, { shownBy: key, shown: shownBytes(seen.after) });
     this.changed = changedPlanes(seen.before, seen.after);
     this.fill();
     return this.root;

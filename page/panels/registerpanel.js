@@ -151,14 +151,10 @@ function otherRows(state) {
   ];
 }
 
-/** Input status 1 as it would be read (docs/RASTER.md). */
-export function statusOne({ registers, beam }) {
-  const { crtc } = registers, bit = (at, to) => (crtc[7] >> at & 1) << to;
-  const isShown = beam.character <= crtc[1] && beam.line <= crtc[18] + bit(1, 8) + bit(6, 9);
-  const start = crtc[16] + bit(2, 8) + bit(7, 9), count = (crtc[17] - start & 15) || 16;
-  const isRetrace = beam.line >= start && beam.line < start + count;
-  return hex((isShown ? 0 : 1) | (isRetrace ? 8 : 0), 2) + (isRetrace ? ": vertical retrace" : isShown
-    ? ": a display dot" : ": no display dot");
+/** Input status 1 as a program would read it. */
+export function statusOne(state) {
+  const value = state.scratch.read(state.registers.misc & 1 ? 0x3da : 0x3ba);
+  return hex(value, 2) + (value & 8 ? ": vertical retrace" : value & 1 ? ": no display dot" : ": a display dot");
 }
 
 /** The groups that stand in the first of two columns, where there is room for two. */

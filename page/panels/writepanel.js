@@ -1,9 +1,9 @@
 // The way of the last step's byte between the host and the planes, stage by stage.
 import { KIND } from "../script/steplist.js";
-import { bitsText, tableOfCycle } from "../explain/cycletable.js";
+import { bitsText, tablesOfStep } from "../explain/cycletable.js";
 import { classesOf, element, pageLink } from "../common/dom.js";
-import { cyclesOfStep, memoryOf } from "../explain/cycle.js";
 import { hex } from "../common/bytes.js";
+import { whyRefused } from "../explain/refusals.js";
 
 const MEMORY_STEPS = [KIND.put, KIND.putw, KIND.get, KIND.getw];
 
@@ -24,10 +24,8 @@ function cellOf(cell, isUsed) {
 }
 
 /** A cycle as an element. */
-function cycleOf(cycle) {
-  const { title, sentences, heads, rows } = tableOfCycle(cycle);
+function cycleOf({ title, sentences, heads, rows }) {
   const [address, ...more] = sentences.map(text => element("p", {}, text));
-  if (!rows.length) return element("div", {}, element("h3", {}, title), address);
   const head = heads.map(({ plane, isUsed, source }) => element("th", { scope: "col",
     className: classesOf(!isUsed && "unused") }, `plane ${plane}`, element("small", {}, source)));
   const body = rows.map(row => element("tr", {}, element("th", { scope: "row" }, row.title),
@@ -72,11 +70,12 @@ export class WritePanel {
     }
     const [name, place, value = "0"] = outline.wordsOf(entry).toLowerCase().split(" ");
     const step = { name, place: parseInt(place, 16), value: parseInt(value, 16) };
-    const { cycles, isRefused } = cyclesOfStep(memoryOf(before), step);
+    const why = whyRefused(session, steps - 1, before);
+    if (why) {
+      return [element("p", { className: "wrong" }, `The step is refused, so nothing is written or read. ${why.text}`)];
+    }
     const hint = element("p", { className: "hint" }, "The registers and latches are those before " +
       "the step. Bits that changed are bold; planes that take no part are pale. ", this.#link, ".");
-    const refused = isRefused ? [element("p", { className: "wrong" },
-      "The step is refused, so nothing of this happens.")] : [];
-    return [hint, ...refused, ...cycles.map(cycleOf)];
+    return [hint, ...tablesOfStep(before, step).map(cycleOf)];
   }
 }

@@ -7,7 +7,7 @@ import { MOST_BYTES } from "../script/grammar.js";
 import { Session } from "./session.js";
 import { Trouble } from "../common/trouble.js";
 import { grouped, hex, joinedBytes } from "../common/bytes.js";
-import { whyRefused } from "../script/refusals.js";
+import { whyRefused } from "../explain/refusals.js";
 
 const READS = [KIND.in, KIND.get];
 /** Where the BIOS data stand in a saved state: from here to there (docs/STATE.md). */
@@ -97,15 +97,14 @@ export function isCallAt({ outline, length }, step) {
 }
 
 /** Why a call has no cycles that could be shown; an empty text where it has some. */
-function whyNone({ status, bytes }, step, words, before) {
+function whyNone({ status, bytes }, session, step, before) {
   const name = `Step ${grouped(step)}`;
   if (status === STATUS_TOO_LONG) {
     return `${name} makes too many cycles: the list of them may have ${grouped(MOST_BYTES)} bytes, which ` +
       "are about 2,800,000 cycles.";
   }
   if (status) {
-    const { text } = whyRefused(words, `E${status}`, before);
-    return `${name} is refused, so it makes no cycle. ${text}`;
+    return `${name} is refused, so it makes no cycle. ${whyRefused(session, step - 1, before)?.text ?? ""}`;
   }
   return bytes.length > MAGIC ? "" : `${name} makes no cycle: it takes and changes BIOS data alone.`;
 }
@@ -122,7 +121,7 @@ export function openCall(session, step, before) {
   try {
     card.restore([before.bytes]);
     const told = card.cycles(new Operations(bytes, 1).call(0));
-    const why = whyNone(told, step, words, before);
+    const why = whyNone(told, session, step, before);
     if (why) throw new Trouble(why);
     card.runOn(bytes, 0, 1, MOST_ANSWER);
     return new CallSession(session, { step, words, script: told.bytes, before: before.bytes,

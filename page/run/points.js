@@ -1,7 +1,7 @@
 // Breakpoints: what they watch, and the search for the next or the last step that meets one.
 import { AnyWatch, BiosWatch, BytesWatch, ColourWatch, PaletteWatch,
   RegisterWatch } from "./watching.js";
-import { BeamWatch, DrawnWatch, StartWatch } from "./beamwatch.js";
+import { BeamWatch, DrawnWatch } from "./beamwatch.js";
 import { GROUPS } from "../module/registers.js";
 import { KIND } from "../script/steplist.js";
 import { hex } from "../common/bytes.js";
@@ -44,7 +44,6 @@ export function pointText(point) {
     case "beam": return `the beam at line ${point.line}, dot ${point.dot}`;
     case "drawn": return `the beam draws dot ${point.dot} of line ${point.line}`;
     case "frame": return "the end of a frame";
-    case "start": return "the first dot of a frame";
     case "wrong": return "an answer that differs from what is expected";
     default: return "a refusal";
   }
@@ -78,7 +77,6 @@ export function watchOf(point) {
     case "bios": return new BiosWatch(point.name, point.page);
     case "beam": case "frame": return new BeamWatch(point);
     case "drawn": return new DrawnWatch(point);
-    case "start": return new StartWatch();
     case "watch": return point.watch;
     default: return null;
   }
@@ -90,12 +88,11 @@ export function watchOf(point) {
 export class Search {
   /**
    * From after `from` steps on, forward, or back from the step before; `isInclusive` has the last
-   * step looked at too. Back, it looks at no step before the first `first` ones.
+   * step looked at too.
    */
-  constructor(session, points, from, isBack, isInclusive = false, first = 0) {
+  constructor(session, points, from, isBack, isInclusive = false) {
     this.session = session;
     this.looked = from;
-    this.first = first;
     this.plain = points.filter(point => ["line", "port", "address"].includes(point.kind));
     const watches = points.map(watchOf).filter(watch => watch);
     this.watch = watches.length ? new AnyWatch(watches) : null;
@@ -168,11 +165,11 @@ export class Search {
   }
 
   * back(to) {
-    const { first, session } = this;
-    for (let end = to; end > first;) {
+    const { session } = this;
+    for (let end = to; end > 0;) {
       const kept = session.checkpointBefore(end - 1).at;
       // A stretch that has to be walked begins at a checkpoint, however far that is.
-      const begin = Math.max(first, this.watch ? kept : Math.max(kept, end - CHUNK));
+      const begin = this.watch ? kept : Math.max(kept, end - CHUNK);
       let last = 0;
       for (const met of this.scan(begin, end)) {
         if (met) last = met;

@@ -344,7 +344,8 @@ export class Runner {
     this.#isSlow = !isThere;
     if (!isThere) return null;
     this.#goal = null;
-    return isSeen ? null : this.#show(goal);
+    // Who waits for the step hears of it, also if it is shown already.
+    return isSeen ? this.#heard.shown(this.seen) : this.#show(goal);
   }
 
   /** A step that the run has not taken yet is waited for, unless the run is stopped. */

@@ -79,6 +79,8 @@ export class Scout {
     this.operations = new Operations(script, outline.kinds.length);
     this.card = new Card(adapter, fonts);
     this.room = adapter.taken(1024);
+    /** Where a beam stands that a search asks about, behind what the calls write. */
+    this.beam = this.room + 1024 - 64;
     // After how many steps the card is; -1 where nothing is known of it.
     this.at = -1;
   }

@@ -10,11 +10,12 @@ import { MOST_BYTES } from "../script/grammar.js";
 import { MOST_COMPARED, comparedToRun, digitsTo, sumOfBytes, sumOfText } from "./comparing.js";
 import { Pieces } from "./pieces.js";
 import { Scout } from "./scout.js";
-import { State } from "../module/state.js";
+import { State, openAsked } from "../module/state.js";
 import { Trouble } from "../common/trouble.js";
 import { counted, grouped } from "../common/bytes.js";
-import { encodingTrouble, reasonOfLine } from "../script/reasons.js";
+import { encodingTrouble } from "../script/foreign.js";
 import { isAsExpected, isRefusal } from "../script/expecting.js";
+import { mistakeIn } from "../script/mistakes.js";
 import { readReport } from "./report.js";
 
 /**
@@ -40,9 +41,8 @@ export function judgedText(adapter, text) {
   }
   const { bytes: script, line } = adapter.assembled(bytes);
   if (!line) return { script, outline: new Outline(text) };
-  const whole = line === 1 ? encodingTrouble(bytes) : null, found = reasonOfLine(text, line);
-  const trouble = new Trouble(whole ?? found.reason, line);
-  throw Object.assign(trouble, { at: found.at, width: found.width });
+  const whole = line === 1 ? encodingTrouble(bytes) : null, { reason, at, width } = mistakeIn(adapter, bytes);
+  throw Object.assign(new Trouble(whole ?? reason, line), { at, width });
 }
 
 /** A run of a text with the fonts that its mode sets load. */
@@ -98,6 +98,8 @@ export class Session {
     this.outline = judged.outline;
     this.length = judged.outline.length;
     this.pieces = new Pieces(adapter, judged.outline);
+    // So that there is memory for it, or none is found to be left before anything is shown.
+    openAsked(adapter, fonts);
     /** The card that takes all steps, ahead of the one that shows them. */
     this.ahead = new Card(adapter, fonts);
     try {

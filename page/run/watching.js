@@ -3,7 +3,6 @@
 // need not be looked at, and holds the value after a step to the one before.
 import { KIND } from "../script/steplist.js";
 import { placeInStruct } from "../module/structs.js";
-import { placeOfAddress } from "../explain/cycle.js";
 
 const PLANES = [0, 1, 2, 3], ENTRIES = 256;
 /** The ports by which the registers of a group, and its index, are written. */
@@ -14,25 +13,14 @@ const PORTS = { misc: [0x3c2], seq: [0x3c5], gfx: [0x3cf], crtc: [0x3d5, 0x3b5],
  * Whether a step may write one of some ports, by its words; a call of the video BIOS may write all
  * of them.
  */
-export function mayWrite(ports, { kind, place }) {
+function mayWrite(ports, { kind, place }) {
   if (kind === KIND.int) return true;
   if (kind === KIND.out) return ports.includes(place);
   return kind === KIND.outw && (ports.includes(place) || ports.includes(place + 1));
 }
 
-/** Whether an address may lead to an offset from `from` to `to`, whatever the registers are. */
-function mayLead(address, from, to) {
-  // The windows begin at A0000, B0000 and B8000.
-  const places = [address & 65535, address - 0x8000 & 65535];
-  return places.some(place => place >= from && (place & ~3) <= to);
-}
-
-/** Whether a step may write bytes at offsets from `from` to `to`. */
-function mayStore({ kind, place }, from, to) {
-  if (kind === KIND.int) return true;
-  if (kind === KIND.put) return mayLead(place, from, to);
-  return kind === KIND.putw && (mayLead(place, from, to) || mayLead(place + 1, from, to));
-}
+/** The steps that may write bytes of the planes. */
+const STORES = [KIND.put, KIND.putw, KIND.int];
 
 /** Numbers of a struct or of planes, as they were when they were looked at last. */
 class Watch {
@@ -133,16 +121,13 @@ export class PaletteWatch extends Watch {
   }
 }
 
-const AT = { misc: placeInStruct("zak_registers", "misc"),
-  memory: placeInStruct("zak_registers", "seq") + 4,
-  map: placeInStruct("zak_registers", "gfx") + 6 };
+const OFFSET = placeInStruct("zak_write_stages", "offset");
 
-/** Those registers that say where an address leads, which `placeOfAddress` takes. */
-function wayOfAddresses({ adapter, card, room }) {
-  adapter.calls.zak_read_registers(card.at, room);
+/** The offset in each plane to which a write leads; -1 where no memory answers. */
+function offsetOf({ adapter, card, room }, address) {
+  if (adapter.calls.zak_explain_put(card.at, address, 0, room)) return -1;
   const { bytes } = adapter;
-  return { misc: bytes[room + AT.misc], seq: { 4: bytes[room + AT.memory] },
-    gfx: { 6: bytes[room + AT.map] } };
+  return bytes[room + OFFSET] | bytes[room + OFFSET + 1] << 8;
 }
 
 /** Bytes of planes: those of `planes`, a bit each, at offsets from `from` to `to`. */
@@ -152,8 +137,8 @@ export class BytesWatch extends Watch {
     Object.assign(this, { planes: PLANES.filter(plane => planes >> plane & 1), from, to });
   }
 
-  mayChange(operation) {
-    return mayStore(operation, this.from, this.to);
+  mayChange({ kind }) {
+    return STORES.includes(kind);
   }
 
   read({ card }) {
@@ -165,8 +150,7 @@ export class BytesWatch extends Watch {
   isChanged(scout, { kind, place }) {
     if (kind === KIND.int) return super.isChanged(scout);
     if (this.from === this.to) return this.isOther(scout, this.from);
-    const registers = wayOfAddresses(scout);
-    const isOther = address => this.isOther(scout, placeOfAddress(registers, address).offset);
+    const isOther = address => this.isOther(scout, offsetOf(scout, address));
     const isFirst = isOther(place);
     return kind === KIND.put ? isFirst : isOther(place + 1) || isFirst;
   }

@@ -1,14 +1,14 @@
 // What a fault of a script of bytes means, in the words of the tools.
 import { MOST_BYTES, MOST_STEPS } from "./grammar.js";
 import { hex } from "../common/bytes.js";
-import { notAScript } from "./reasons.js";
+import { notAScript } from "./foreign.js";
 import { said } from "./said.js";
 
 const OPCODE_NAMES = ["", "out", "outw", "in", "inw", "put", "putw", "get", "getw", "int",
   "advance",
   "frame", "show", "repeat", "end"];
 const SHOW = 12, REPEAT = 13, END = 14, LAST_KIND = 6;
-const UNKNOWN_FAULT = said("lines", "unknown");
+const UNKNOWN_FAULT = "refused, and I can't say why";
 const ofFault = (which, values) => said("faults", which, values);
 
 /** The faults of a run by their statuses (include/zaklimot.h), as docs/REPORT.md names them. */

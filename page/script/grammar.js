@@ -3,12 +3,12 @@
 // page/tests/reasons.mjs holds the two together.
 
 /** A number of at most so many hexadecimal digits, from 0. */
-export function digitsNumber(name, digits, most = 16 ** digits - 1) {
+function digitsNumber(name, digits, most = 16 ** digits - 1) {
   return { name, digits, least: 0, most };
 }
 
 /** A number of decimal digits, within bounds. */
-export function decimalNumber(name, most, least = 0) {
+function decimalNumber(name, most, least = 0) {
   return { name, digits: 0, least, most };
 }
 
@@ -28,8 +28,6 @@ export const SHAPES = {
   advance: [decimalNumber("DOTS", 4294967295)],
   frame: [],
 };
-/** The line that every script with a repeat begins with. */
-export const VERSION_TWO = "version 2";
 /** The lines of version 2: what it begins with, and the ends of a block. */
 export const BLOCK_LINES = { version: [decimalNumber("2", 2, 2)],
   repeat: [decimalNumber("N", 65535, 1)], end: [] };

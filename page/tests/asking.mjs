@@ -122,7 +122,7 @@ const PARTS = {
     await stepIs(7, 8);
     await browser.press("7");
     await says(".write", "Write of 00 to A4B28");
-    await says(".write", "the map mask 4 lets through 2: written are 2.");
+    await says(".write", "By the map mask 4, plane 2 is written.");
     const cells = await browser.value(
       `[...document.querySelectorAll(".cycle tr")].at(-1).innerText`);
     assert.match(cells, /byte after\s+FF 1111 1111\s+FF 1111 1111\s+F0 1111 0000\s+FF 1111 1111/);
@@ -135,6 +135,18 @@ const PARTS = {
     await browser.press("Home");
     await browser.press("ArrowRight");
     await says(".write", "A BIOS call makes many cycles");
+  },
+
+  async "a write into a hidden page is found, and the card tells of it there"() {
+    await load("int ax=D\noutw 3C4 0202\nput A2028 FF\noutw 3D4 200C\nframe");
+    await browser.clickAt(...await placeOf(3, 2));
+    await says("#asked", "2028 of the planes");
+    await browser.click(action("change"));
+    await stepIs(3, 5);
+    assert.match(await text("#found"), /^This step changed dot 3 of line 2: bits 0 → 2; colour 00 00 00 → 00 2A 00\.$/);
+    await says("#asked", "00 00 00: the frame of this step shows something else there");
+    assert.match(await text("#asked"), /address\s+A2028/);
+    await browser.press("Escape");
   },
 
   async "bytes, registers, fields, colours and cells are asked about"() {

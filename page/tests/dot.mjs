@@ -1,17 +1,18 @@
-// A dot's colour, as the page explains it, is that of the adapter's own picture: each dot of frames
-// of random registers and memory, and of frames in which registers change.
+// Where the page says that a dot comes from, the adapter has told: the page finds the beam that draws
+// it. Each dot of frames of random registers and memory, and of frames in which registers change,
+// therefore has the colour of the adapter's own picture.
 import assert from "node:assert/strict";
 import test from "node:test";
 import { Card } from "../module/adapter.js";
 import { State, frameShape } from "../module/state.js";
-import { FrameWalk, dotsToFrame } from "../explain/walk.js";
-import { bytesOfDot, dotKind, explainDot, hostAddress, pixelOf,
-  sourcesOf } from "../explain/dot.js";
-import { placeOfAddress } from "../explain/cycle.js";
+import { addressOf } from "../explain/address.js";
+import { bytesOfDot, kindOf, pixelOf } from "../explain/dotrows.js";
+import { dotAhead, sourceAt } from "../explain/way.js";
+import { differingParts, partsOfDot } from "../explain/dotsearch.js";
 import { Random, stateOf } from "./randomly.mjs";
 import { FONTS, loadAdapter } from "./loading.mjs";
 
-const adapter = await loadAdapter(), FRAMES = 150;
+const adapter = await loadAdapter(), FRAMES = 80;
 
 /** Random values of registers that give frames of not too many dots. */
 function giver(random, most = 60) {
@@ -40,42 +41,42 @@ function seasoned(bytes, random) {
   return bytes;
 }
 
-/** Holds all dots of a frame to what is explained; how many there are. */
-function holdFrame(state, widths, rgb, from = 0) {
-  const sources = sourcesOf(state), walk = new FrameWalk(sources.registers, state.beam,
-    state.drawn);
-  const { drawn: dotsDrawn } = state;
-  let at = from, count = 0;
+/** Holds the dots of a frame to be drawn that are asked for to what is told of them; how many there are. */
+function holdFrame(state, { widths, rgb }, isAsked) {
+  let at = 0, count = 0;
   for (let line = 0; line < widths.length; line++) {
-    const width = widths[line], drawn = dotsDrawn[line];
-    for (let x = 0; x < width; x++, at += 3) {
-      if (x < drawn) continue;
-      const beam = walk.place(line, x), told = beam && explainDot(sources, beam).colour;
-      const isSame = told && told[0] === rgb[at] && told[1] === rgb[at + 1] &&
-        told[2] === rgb[at + 2];
-      if (!isSame) assert.deepEqual(told, [...rgb.subarray(at, at + 3)],
-        `line ${line}, dot ${x}, ${JSON.stringify(beam)}`);
+    const width = widths[line], drawn = state.drawnOf(line);
+    for (let dot = 0; dot < width; dot++, at += 3) {
+      if (dot < drawn || !isAsked(line)) continue;
+      const made = dotAhead(state, { line, dot });
+      assert.ok(made?.isThisFrame, `line ${line}, dot ${dot}`);
+      assert.deepEqual(made.source.colour, [...rgb.subarray(at, at + 3)],
+        `line ${line}, dot ${dot}, ${JSON.stringify(made.beam)}`);
       count++;
     }
-    assert.equal(walk.place(line, width), null, `line ${line} has ${width} dots`);
+    if (width && isAsked(line)) {
+      assert.notEqual(dotAhead(state, { line, dot: width })?.isThisFrame, true, `line ${line} has ${width} dots`);
+    }
   }
   return count;
 }
 
-test(`each dot of ${FRAMES} random frames has the colour that is explained`, () => {
+/** Asks for some lines of a frame, the first and those about the beam among them. */
+const someLines = (random, { beam }) => {
+  const from = random.below(16);
+  return line => line % 16 === from || line < 2 || Math.abs(line - beam.line) < 2;
+};
+
+test(`dots of ${FRAMES} random frames have the colour that is told`, () => {
   const card = new Card(adapter, FONTS), random = new Random(3), first = card.save(), kinds = {};
-  let dots = 0;
   for (let time = 0; time < FRAMES; time++) {
     card.restore([seasoned(stateOf(first, random, giver(random)), random)]);
-    const state = State.of(card), { widths, rgb } = card.frameLines(),
-      kind = dotKind(state.registers);
-    const count = holdFrame(state, widths, rgb);
-    kinds[kind] = (kinds[kind] ?? 0) + count;
-    dots += count;
+    const state = State.of(card), picture = card.frameLines();
+    const kind = kindOf(dotAhead(state, { line: 0, dot: 0 })?.source ?? { isText: 1 });
+    kinds[kind] = (kinds[kind] ?? 0) + holdFrame(state, picture, someLines(random, state));
   }
-  console.log(`${dots} dots: ${JSON.stringify(kinds)}`);
-  assert.ok(dots > 2e6 && Object.values(kinds).length === 3 &&
-    Object.values(kinds).every(count => count > 300000));
+  console.log(`dots: ${JSON.stringify(kinds)}`);
+  assert.ok(Object.values(kinds).length === 3 && Object.values(kinds).every(count => count > 20000));
   card.close();
 });
 
@@ -110,69 +111,72 @@ test("each dot of frames in which registers change has the colour of the state t
     card.restore([bytes]);
     for (let part = 0; part < 12; part++) {
       disturb(card, random);
-      const state = State.of(card), { widths, rgb } = card.frameLines();
-      dots += holdFrame(state, widths, rgb);
+      const state = State.of(card), picture = card.frameLines();
+      dots += holdFrame(state, picture, someLines(random, state));
       card.restore([state.bytes]);
-      const { registers, beam } = state;
-      assert.equal(dotsToFrame(registers, beam), card.clock().toFrame);
-      const { dots: line, lines } = frameShape(registers);
+      const { dots: line, lines } = frameShape(state.registers);
       adapter.calls.zak_advance(card.at, random.below(Math.ceil(line * lines / 6)));
     }
   }
   console.log(`${dots} dots of frames that change`);
-  assert.ok(dots > 2e6);
+  assert.ok(dots > 100000);
   card.close();
 });
 
-test("the bytes that a dot is made of, and their bits, change its colour, and no others do", () => {
+test("the bytes that a dot is made of, and no others, change what is told of it", () => {
   const card = new Card(adapter, FONTS), random = new Random(9), first = card.save();
+  let used = 0;
   for (let time = 0; time < 400; time++) {
-    card.restore([seasoned(stateOf(first, random, giver(random)), random)]);
-    const state = State.of(card), sources = sourcesOf(state);
-    const walk = new FrameWalk(sources.registers, state.beam, state.drawn);
-    const beam = walk.place(random.below(20), random.below(40));
-    if (!beam) continue;
-    const told = explainDot(sources, beam), used = bytesOfDot(sources, told);
-    const key = one => JSON.stringify(
-      [one.four, one.byte, one.text?.isOn, one.text?.four, one.number]);
-    const plane = random.below(4), offset = random.below(3) ? told.offset : random.below(65536);
-    const other = explainDot({ ...sources, byteAt: (p, at) =>
-      sources.byteAt(p, at) ^ (p === plane && at === offset ? 255 : 0) }, beam);
-    const isUsed = used.some(one => one.plane === plane && one.offset === offset && one.bits);
-    if (!isUsed) assert.equal(key(other), key(told), JSON.stringify({ plane, offset, used }));
-    else if (told.by === "palette" && told.kind === "16 colours") assert.notEqual(other.way.enabled,
-      told.way.enabled);
+    const bytes = seasoned(stateOf(first, random, giver(random)), random);
+    card.restore([bytes]);
+    const state = State.of(card), made = dotAhead(state, { line: random.below(20), dot: random.below(40) });
+    if (!made) continue;
+    const { source, beam, registers } = made, plane = random.below(4);
+    const offset = random.below(3) ? source.address : random.below(65536);
+    const isUsed = bytesOfDot(source, registers.attr[18]).some(one =>
+      one.plane === plane && one.offset === offset && one.bits);
+    const other = bytes.slice();
+    other[894 + 65536 * plane + offset] ^= 255;
+    card.restore([other]);
+    const isOther = differingParts(partsOfDot(source), partsOfDot(sourceAt(card, beam))).length > 0;
+    if (!isUsed) assert.equal(isOther, false, JSON.stringify({ plane, offset, source }));
+    else if (!source.isText) assert.equal(isOther, true, JSON.stringify({ plane, offset, source }));
+    if (isUsed) used++;
   }
+  assert.ok(used > 50, String(used));
   card.close();
 });
 
-test("the host's address of an offset leads there, and none does where none is told", () => {
-  const random = new Random(11);
-  for (let time = 0; time < 2000; time++) {
-    const registers = { misc: 2, seq: [0, 0, 15, 0, random.byte() & 14],
-      gfx: [0, 0, 0, 0, 0, 0, random.byte() & 15] };
-    const plane = random.below(4), offset = random.below(65536),
-      address = hostAddress(registers, plane, offset);
+test("the address of a byte leads there, and none does where none is told", () => {
+  const card = new Card(adapter, FONTS), random = new Random(11), first = card.save();
+  let none = 0;
+  for (let time = 0; time < 300; time++) {
+    card.restore([stateOf(first, random, () => random.byte(), false)]);
+    const state = State.of(card), plane = random.below(4), offset = random.below(65536);
+    const address = addressOf(state, plane, offset);
+    adapter.calls.zak_out_word(card.at, 0x3c4, 0x0f02);
+    adapter.calls.zak_out_word(card.at, 0x3ce, 0xff08);
     const reaches = at => {
-      const place = placeOfAddress(registers, at);
-      return place.isDecoded && place.offset === offset && (place.addressed >> plane & 1) === 1;
+      const stages = card.writeStages(at, 0);
+      return stages !== null && stages.offset === offset && (stages.planes >> plane & 1) === 1;
     };
-    if (address !== null) assert.ok(reaches(address),
-      JSON.stringify({ registers, plane, offset, address }));
-    const [start] = [placeOfAddress(registers, 0).start];
-    for (let more = -4; address === null && more < 5; more++) assert.ok(
-      !reaches(start + offset + more));
+    if (address !== null) assert.ok(reaches(address), JSON.stringify({ plane, offset, address }));
+    else for (let at = 0xa0000; at < 0xc0000; at += 0x4000) {
+      none++;
+      for (let more = -4; more < 5; more++) assert.ok(!reaches(at + (offset & 0x3fff) + more));
+    }
   }
+  assert.ok(none > 100);
+  card.close();
 });
 
 test("pixels where the screen doubles dots and lines", () => {
-  const registers = (six, five, nine, clocking) =>
-    ({ gfx: [0, 0, 0, 0, 0, five, six], seq: [0, clocking],
+  const registers = (nine, clocking) => ({ seq: [0, clocking],
     crtc: Uint8Array.from({ length: 25 }, (_, i) => (i === 9 ? nine : 0)) });
-  assert.deepEqual(pixelOf(registers(5, 64, 0x41, 1), 101, 301),
+  assert.deepEqual(pixelOf(registers(0x41, 1), "256 colours", 101, 301),
     { x: 150, y: 50, across: 2, down: 2 });
-  assert.deepEqual(pixelOf(registers(5, 0, 0x80, 1), 101, 301),
+  assert.deepEqual(pixelOf(registers(0x80, 1), "16 colours", 101, 301),
     { x: 301, y: 50, across: 1, down: 2 });
-  assert.deepEqual(pixelOf(registers(0, 0, 0x0f, 0), 101, 301),
+  assert.deepEqual(pixelOf(registers(0x0f, 0), "text", 101, 301),
     { x: 301, y: 101, across: 1, down: 1 });
 });

@@ -4,11 +4,10 @@ import test from "node:test";
 import { GROUPS } from "../module/registers.js";
 import { MOST_WATCHES, Watches } from "../explain/watches.js";
 import { Session } from "../run/session.js";
-import { cyclesOfStep, memoryOf } from "../explain/cycle.js";
 import { dotOfSeen } from "../explain/dotsearch.js";
 import { lineOfDot, rowsOfDot } from "../explain/dotrows.js";
 import { subjectOf } from "../explain/subjects.js";
-import { tableOfCycle } from "../explain/cycletable.js";
+import { tablesOfStep } from "../explain/cycletable.js";
 import { FONTS, loadAdapter, runWhole } from "./loading.mjs";
 
 const adapter = await loadAdapter();
@@ -71,21 +70,19 @@ test("overscan and a screen that is off are told", () => {
 
 test("a write and a read as tables", () => {
   const state = seenOf("int ax=12\nput A0000 0F\nget A0000\noutw 3CE F008\noutw 3C4 0402").after;
-  const [write] = cyclesOfStep(memoryOf(state),
-    { name: "put", place: 0xa0000, value: 0xaa }).cycles;
-  const { title, sentences, heads, rows: stages } = tableOfCycle(write);
+  const [write] = tablesOfStep(state, { name: "put", place: 0xa0000, value: 0xaa });
+  const { title, sentences, heads, rows: stages } = write;
   assert.equal(title, "Write of AA to A0000");
-  assert.equal(sentences[0],
-    "A0000 − A0000 = 0000 in the window A0000 to AFFFF: offset 0000 of each plane.");
+  assert.equal(sentences[0], "A0000 − A0000 = 0000 in the window A0000 to AFFFF: offset 0000 of each plane.");
+  assert.equal(sentences[2], "By the map mask 4, plane 2 is written.");
   assert.deepEqual(heads.map(({ isUsed }) => isUsed), [false, false, true, false]);
   const after = stages.find(one => one.title === "byte after");
   assert.deepEqual(after.cells.map(({ bits }) => bits),
     ["0000 1111", "0000 1111", "1010 1111", "0000 1111"]);
   assert.equal(after.cells[2].marked, 0xa0);
-  const [read] = cyclesOfStep(memoryOf(state), { name: "get", place: 0xa0000, value: 0 }).cycles;
-  assert.match(tableOfCycle(read).sentences[1], /^Read mode 0: plane 0, by read map select: 0F\.$/);
-  const [none] = cyclesOfStep(memoryOf(state), { name: "put", place: 0xb8000, value: 0 }).cycles;
-  assert.deepEqual(tableOfCycle(none).rows, []);
+  const [read] = tablesOfStep(state, { name: "get", place: 0xa0000, value: 0 });
+  assert.match(read.sentences[1], /^Read mode 0: plane 0, by read map select: 0F\.$/);
+  assert.deepEqual(tablesOfStep(state, { name: "put", place: 0xb8000, value: 0 }), []);
 });
 
 test("subjects: each that a panel names has a title, a value and a search", () => {
@@ -114,7 +111,7 @@ test("a search for a field looks at the field's bits alone", () => {
   const text = "int ax=12\noutw 3CE 0105\noutw 3CE 0905\nout 3C6 0F\nin 3DA\nout 3C0 0\nout 3C0 20";
   const session = runWhole(new Session(adapter, FONTS, text));
   const last = words => {
-    const search = subjectOf(words).search(session, session.length, false);
+    const search = subjectOf(words).search(session, session.length, null);
     for (let told = null; ; told = search.take(100)) if (told) return told.steps;
   };
   assert.deepEqual(["field gfx 05 1-0", "field gfx 05 3", "register gfx 05", "dacmask", "source",

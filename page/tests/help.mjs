@@ -8,7 +8,7 @@ import { readFileSync, readdirSync } from "node:fs";
 import { BLOCK_LINES, SHAPES, SHOWN } from "../script/grammar.js";
 import { GROUPS } from "../module/registers.js";
 import { PORTS } from "../help/ports.js";
-import { SERVICE_ANCHORS } from "../script/refusals.js";
+import { SERVICE_ANCHORS } from "../help/services.js";
 import { STEPS, stepOf } from "../help/steps.js";
 import { choicesAt, opensItself } from "../help/choices.js";
 import { helpAt, plainText, serviceOf } from "../help/telling.js";

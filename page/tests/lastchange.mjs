@@ -2,11 +2,10 @@
 // step, of random scripts.
 import assert from "node:assert/strict";
 import test from "node:test";
-import { Card } from "../module/adapter.js";
-import { DotSearch, dotAhead, dotOfSeen, partsOfDot } from "../explain/dotsearch.js";
+import { DotSearch, differingParts, dotOfSeen, partsOfDot } from "../explain/dotsearch.js";
 import { Search } from "../run/points.js";
 import { Session } from "../run/session.js";
-import { State } from "../module/state.js";
+import { dotAhead, sourceAt } from "../explain/way.js";
 import { LONG_SCRIPTS, WATCHED, timesOfSearches } from "./longsearches.mjs";
 import { Random } from "./randomly.mjs";
 import { FONTS, loadAdapter, runWhole } from "./loading.mjs";
@@ -121,42 +120,13 @@ test("the last step, and the next, that changed bytes, registers, colours or BIO
   assert.ok(changes > 800 && again > 40);
 });
 
-/** A card that states are restored on. */
-const scratch = new Card(adapter, FONTS);
-
-/**
- * The parts of a dot as the frame of a state would draw it; of steps of its frame by the start
- * taken then.
- */
-function partsAt(state, place, start, frame) {
-  const bytes = state.bytes.slice(0, 265086);
-  // The same state at the first dot of a frame.
-  bytes.fill(0, 41 + 27, 41 + 37);
-  bytes.fill(0, 263038, 265086);
-  new DataView(bytes.buffer, bytes.byteOffset).setUint32(5, bytes.length, true);
-  bytes[41 + 26] = frame;
-  for (const i of [8, 12, 13]) if (start) bytes[41 + i] = start[i];
-  scratch.restore([bytes]);
-  const made = dotAhead(State.of(scratch), place);
-  return JSON.stringify(made ? partsOfDot(made.sources, made.told) : partsOfDot(null, null));
-}
-
-const isAtStart = ({ beam }) => !beam.line && !beam.character && !beam.dot;
-
-/** The last step that changed a dot, of all states: by the definition, with nothing left out. */
-function lastChangeOf(states, place, at, frames) {
+/** The last step that changed a dot as it is drawn from a state on: of all states, with nothing left out. */
+function lastChangeOf(states, place, at) {
   const made = dotAhead(states[at], place);
   if (!made) return null;
-  const isWithin = made.isThisFrame && !isAtStart(states[at]);
-  let first = at;
-  while (isWithin && first > 0 && frames[first] === frames[at] &&
-    !isAtStart(states[first])) first--;
-  const start = states[at].registers.crtc;
+  const parts = steps => partsOfDot(sourceAt(states[steps].card, made.beam));
   for (let steps = at; steps > 0; steps--) {
-    const frozen = isWithin && steps > first + 1 ? start : null;
-    const [old, now] = [steps - 1, steps].map(one =>
-      partsAt(states[one], place, frozen, made.told.beam.frame));
-    if (old !== now) return steps;
+    if (differingParts(parts(steps - 1), parts(steps)).length) return steps;
   }
   return null;
 }
@@ -199,25 +169,22 @@ test("each kind of register that shows in a dot is found changed", () => {
   const place = { line: 0, dot: 3 }, begin = "int ax=12\nput A0000 FF\nin 3DA\n";
   const wanted = { "out 3C0 32\nout 3C0 7": 5, "out 3C0 33\nout 3C0 1": 5,
     "out 3C0 34\nout 3C0 C": 5,
-    "out 3C0 11\nout 3C0 3": 5, "out 3C6 0F": 4, "outw 3C4 2101": 4, "outw 3D4 010C": 4,
+    "out 3C0 11\nout 3C0 3": 5, "out 3C6 0F": 4, "outw 3C4 2101": 4, "outw 3D4 010C": 1,
     "outw 3CE 0006": 4, "outw 3CE 4005": 4, "outw 3D4 0014\noutw 3D4 E317\noutw 3C4 0102": 2 };
   for (const [steps, found] of Object.entries(wanted)) {
     assert.equal(last(begin + steps, place, false), found, steps);
   }
 });
 
-test("the start address counts as it was taken at the frame's first dot", () => {
-  const place = { line: 12, dot: 3 };
-  // Within the frame it shows in the next one only.
-  assert.equal(last("int ax=13\nadvance 8000\noutw 3D4 010C\nadvance 8000", place), 1);
-  assert.equal(last("int ax=13\nadvance 8000\noutw 3D4 010C", place, false), 1);
-  // Before the frame's first dot it moves the dot.
-  assert.equal(last("int ax=13\nframe\noutw 3D4 010C\nadvance 16000", place), 3);
-  assert.equal(last("int ax=13\nframe\noutw 3D4 010C\nadvance 8000\nadvance 8000", place), 3);
-  assert.equal(last("int ax=13\nframe\noutw 3D4 010C\nframe", place), 3);
-  assert.equal(last("int ax=13\nadvance 8000\noutw 3D4 010C\nadvance 400000", { line: 3, dot: 3 }),
-    3);
-  assert.equal(last("int ax=13\nadvance 8000\noutw 3D4 010C\nframe", { line: 3, dot: 3 }), 1);
+test("a register that moves the picture changes no dot: the search goes to what is shown", () => {
+  const place = { line: 12, dot: 3 }, begin = "int ax=13\nput A0785 41\nput A0781 42\n";
+  // The dot shows A0781 at first, and A0785 once the start address is 1.
+  assert.equal(last(`${begin}frame\noutw 3D4 010D\nframe`, place), 2);
+  assert.equal(last(`${begin}frame\nframe`, place), 3);
+  // Within a frame the start address shows in the next one only.
+  assert.equal(last(`${begin}advance 8000\noutw 3D4 010D\nadvance 8000`, place), 3);
+  // The offset register moves lines at once, from the next row on.
+  assert.equal(last("int ax=13\nput A0F01 41\nput A0781 42\noutw 3D4 1413\nframe", { line: 24, dot: 3 }), 3);
 });
 
 test("the last step that changed a dot", () => {
@@ -239,7 +206,7 @@ test("the last step that changed a dot", () => {
       const search = new DotSearch(session, place, steps, { isDrawn }), told = found(search);
       if (isDrawn) assert.equal(search.drawnBy, at + 1,
         `drawn: ${JSON.stringify(place)} at ${steps}`);
-      const wanted = lastChangeOf(states, place, at, frames);
+      const wanted = lastChangeOf(states, place, at);
       assert.equal(told?.steps ?? null, wanted,
         `${JSON.stringify(place)} at ${steps}, drawn after ${at}\n${session.outline.text}`);
       if (wanted === null) none++;

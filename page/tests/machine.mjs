@@ -8,11 +8,11 @@ import { tmpdir } from "node:os";
 import { dirname, join } from "node:path";
 import test from "node:test";
 import { Machine, SPEEDS } from "../machine/machine.js";
-import { WIDEST } from "../module/adapter.js";
+import { Card, WIDEST } from "../module/adapter.js";
 import { Recording, judgedRecording } from "../machine/recording.js";
 import { Session, judgedText } from "../run/session.js";
 import { bytesOfKey } from "../machine/pckeys.js";
-import { rebuilding, statesOf } from "../machine/rebuilding.js";
+import { rebuildingLines } from "../machine/rebuilt.js";
 import { isSavedRun, savedRunOf, savedRunText } from "../machine/savedrun.js";
 import { stopOf } from "../machine/stops.js";
 import { traceOfRecording } from "../machine/windowtrace.js";
@@ -70,7 +70,7 @@ function recordingOf(machine, snapshot, cycles) {
   const frame = machine.frameBefore(cycles, 70), { moment } = machine;
   assert.ok(frame !== null && frame >= snapshot.frames, `frame ${frame}`);
   const { state } = machine.runWindow(snapshot, frame, moment);
-  return new Recording(rebuilding(state, statesOf(adapter, FONTS)), machine);
+  return new Recording(rebuildingLines(adapter, FONTS, state), machine);
 }
 
 for (const { name, bytes } of programs) {
@@ -422,12 +422,13 @@ test("a run keeps all of its software", async () => {
 });
 
 test("the tutorial's program has the mistake that it tells of, and is mended as it says", () => {
-  const { bytes } = programs.find(({ name }) => name === "broken.com"), states = statesOf(adapter, FONTS);
+  const { bytes } = programs.find(({ name }) => name === "broken.com"), card = new Card(adapter, FONTS);
   /** Of each line of the first box the dots that any plane has: those of its second byte, and of its last one. */
   const boxOf = program => {
     const machine = started({ program });
     machine.run(2 * SECOND);
-    const state = states.of(machine.savedState().slice()), planes = [0, 1, 2, 3].map(plane => state.plane(plane));
+    card.restore([machine.savedState()]);
+    const planes = [0, 1, 2, 3].map(plane => card.plane(plane));
     const dots = offset => planes.reduce((sum, plane) => sum | plane[offset], 0);
     return Array.from({ length: 40 }, (_, line) => [dots(80 * line + 1), dots(80 * line + 7)]);
   };

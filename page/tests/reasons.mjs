@@ -1,16 +1,22 @@
-// The page tells the same reasons of bad lines as the tools: those of a table that both
-// tests read, and those of lines at random, which Python is asked for.
+// What is wrong with a line, a text or a script of bytes: the words of a table that the tools' own test reads
+// too. Of lines the adapter tells it; of files that are no text the page does.
 import assert from "node:assert/strict";
 import test from "node:test";
 import { execFileSync } from "node:child_process";
 import { readFileSync } from "node:fs";
 import { BLOCK_LINES, CALL_REGISTERS, MOST_STEPS, READING, SHAPES, SHOWN } from "../script/grammar.js";
 import { FAULT_NAMES, reasonOfBytes } from "../script/faults.js";
-import { encodingTrouble, mistakeIn, reasonOfLine } from "../script/reasons.js";
+import { encodingTrouble } from "../script/foreign.js";
+import { judgedText } from "../run/session.js";
+import { mistakeIn } from "../script/mistakes.js";
 import { TOP, loadAdapter } from "./loading.mjs";
 
 const TABLE = JSON.parse(readFileSync(TOP + "tools/tests/mistakes.json", "utf-8"));
 const DIGITS = "0".repeat(131072);
+const adapter = await loadAdapter();
+
+/** What is wrong in a text. */
+const wrongIn = text => mistakeIn(adapter, new TextEncoder().encode(text));
 
 /** What Python prints as JSON, with `data` as JSON on its standard input. */
 function python(source, data = null) {
@@ -22,21 +28,22 @@ function python(source, data = null) {
 test("each bad line of the table has its reason", () => {
   assert.ok(TABLE.lines.length >= 60);
   for (const { line, part, reason } of TABLE.lines) {
-    const text = line.replace("LONG", DIGITS), found = mistakeIn(text), wanted = part.replace("LONG", DIGITS);
-    assert.equal(found?.reason, reason, line);
+    const text = line.replace("LONG", DIGITS), found = wrongIn(`frame\n${text}`), wanted = part.replace("LONG", DIGITS);
+    assert.deepEqual([found?.line, found?.reason], [2, reason], line);
     if (part) assert.equal(text.slice(found.at, found.at + found.width), wanted, line);
     else assert.equal(found.at, text.split(";")[0].trimEnd().length, line);
   }
 });
 
 test("good lines have none", () => {
-  for (const line of TABLE.good) assert.equal(mistakeIn(line), null, line);
+  for (const line of TABLE.good) assert.equal(wrongIn(line), null, line);
 });
 
 test("texts that are wrong as a whole, and blocks", () => {
   for (const { hex, reason } of TABLE.texts) assert.equal(encodingTrouble(Buffer.from(hex, "hex")), reason);
-  for (const { text, number, reason } of TABLE.blocks) assert.equal(reasonOfLine(text, number)
-    .reason, reason);
+  for (const { text, number, reason } of TABLE.blocks) {
+    assert.deepEqual([wrongIn(text).line, wrongIn(text).reason], [number, reason], text);
+  }
 });
 
 test("scripts of bytes", () => {
@@ -47,10 +54,23 @@ test("scripts of bytes", () => {
   }
 });
 
-test("the module refuses each line of the table, and takes the good ones", async () => {
-  const adapter = await loadAdapter(), judge = text => adapter.assembled(new TextEncoder().encode(text)).line;
-  for (const { line } of TABLE.lines) assert.equal(judge("frame\n" + line.replace("LONG", DIGITS)), 2, line);
-  for (const line of TABLE.good) assert.equal(judge(line), 0, line);
+test("a bad line's part is counted in letters, and a text that is too long has none", () => {
+  for (const [text, at, word] of [["frame\n put é 1", 5, "é"], ["; é\n\tputt 1", 1, "putt"], ["put A0000 \u{1F600}", 10, "\u{1F600}"]]) {
+    const found = wrongIn(text), line = text.split("\n")[found.line - 1];
+    assert.deepEqual([found.at, line.slice(found.at, found.at + found.width)], [at, word], text);
+  }
+  assert.throws(() => judgedText(adapter, "frame\nputt A0000 1"), { message: "there is no step 'putt'; did you mean put?",
+    line: 2, at: 0, width: 4 });
+  const long = `version 2\n${"int ax=9 block 00000000000000000000\n".repeat(400000)}`;
+  assert.match(wrongIn(long + long).reason, /^the text has more bytes, and 16,777,216 bytes are the most$/);
+});
+
+test("a name that is near is asked for; where none is, all are listed", () => {
+  for (const [line, reason] of [["pot A0000 1", /'pot'; did you mean put\?$/], ["show regz", /'regz'; did you mean regs\?$/],
+    ["int ax=3 blok 12", /'blok' is no register; did you mean block\?$/], ["zzz 1", /the steps are out, outw, /],
+    ["show zzz", /; there are regs, /], ["int zzz", /; a call has ax=, /]]) {
+    assert.match(wrongIn(line).reason, reason, line);
+  }
 });
 
 test("the grammar is that of the bindings for Python, which the tools go by", () => {
@@ -77,40 +97,6 @@ function randomNumbers() {
     return Math.floor(seed / 2 ** 32 * most);
   };
 }
-
-/** Lines at random: words of the table, changed here and there. */
-function randomLines(count) {
-  const random = randomNumbers(), pick = from => from[random(from.length)];
-  const words = [...new Set([...TABLE.lines.map(row => row.line), ...TABLE.good].flatMap(
-    line => line.split(/ +/)))]
-    .filter(word => word !== "LONG");
-  const letters = [..."0123456789abcdefgxhOl=,:;.#$-+_'\"()[]\t\r /\\&", "\u00a0", "\u200b", "\u2028", "é",
-    "\x85", "\x7f"];
-  return Array.from({ length: count }, () => {
-    let line = Array.from({ length: 1 + random(5) }, () => pick(words)).join(" ");
-    for (let changes = random(3); changes > 0; changes--) {
-      const at = random(line.length + 1);
-      line = line.slice(0, at) + (random(2) ? pick(letters) : "") + line.slice(at + random(2));
-    }
-    return line.replaceAll("\n", " ");
-  });
-}
-
-test("lines at random have the reason that Python tells", () => {
-  const lines = randomLines(20000);
-  const told = python(`
-from zaklimot_tools.explain.mistakes import mistake_in
-found = [mistake_in(line) for line in json.load(sys.stdin)]
-print(json.dumps([None if mistake is None else [mistake.at, mistake.width,
-  mistake.reason] for mistake in found]))`, lines);
-  let bad = 0;
-  for (const [i, line] of lines.entries()) {
-    const found = mistakeIn(line);
-    assert.deepEqual(found && [found.at, found.width, found.reason], told[i], JSON.stringify(line));
-    if (found) bad++;
-  }
-  assert.ok(bad > 10000, `${bad} of them are bad`);
-});
 
 test("texts at random are wrong as a whole where Python says so, and for its reason", () => {
   const random = randomNumbers(), letters = [..."frame 1\t\r\r\r\n\n\0\x01"];

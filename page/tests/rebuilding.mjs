@@ -1,11 +1,14 @@
-// The steps that rebuild a saved state from power-on, and the cycles between two states: they lead to the same bytes.
+// The steps that rebuild a saved state from power-on lead to the same bytes. So do the cycles that stand in a trace:
+// of a state but for its BIOS data, and of a call.
 import assert from "node:assert/strict";
 import test from "node:test";
-import { cyclesBetween, rebuilding, statesOf } from "../machine/rebuilding.js";
+import { State } from "../module/state.js";
+import { Card } from "../module/adapter.js";
+import { cyclesOfCall, cyclesTo, rebuildingLines } from "../machine/rebuilt.js";
 import { Session } from "../run/session.js";
 import { FONTS, loadAdapter, runWhole } from "./loading.mjs";
 
-const adapter = await loadAdapter(), states = statesOf(adapter, FONTS);
+const adapter = await loadAdapter();
 
 /** The saved bytes after some lines of steps from power-on. */
 function savedAfter(lines) {
@@ -19,7 +22,6 @@ function savedAfter(lines) {
   }
 }
 
-const stateAfter = lines => states.of(new Uint8Array(savedAfter(lines)));
 const int = (ax, bx = 0, cx = 0, dx = 0) => `int ${Object.entries({ ax, bx, cx, dx })
   .map(([name, value]) => `${name}=${value.toString(16).padStart(4, "0")}`).join(" ")}`;
 const set = mode => [int(mode), "frame"];
@@ -51,24 +53,40 @@ const DONE = {
 for (const [name, lines] of Object.entries(DONE)) {
   test(`a state is rebuilt: ${name}`, () => {
     const wanted = savedAfter([...lines, "frame"]);
-    const found = savedAfter(rebuilding(new Uint8Array(wanted), states));
+    const found = savedAfter(rebuildingLines(adapter, FONTS, new Uint8Array(wanted)));
     const at = wanted.findIndex((byte, i) => byte !== found[i]);
     assert.equal(at, -1, `the byte ${at} is ${found[at]} and not ${wanted[at]}`);
     assert.equal(found.length, wanted.length);
   });
 }
 
-test("the cycles between two states lead from the one to the other", () => {
-  const all = Object.values(DONE).map(lines => [...lines, "frame"]);
-  for (const [i, lines] of all.entries()) {
-    // Of the same mode, so that calls of the BIOS leave the same data.
-    const mode = lines[0], others = all.filter((other, k) => k !== i && other[0] === mode);
-    for (const other of others) {
-      const wanted = stateAfter(other), between = cyclesBetween(stateAfter(lines), wanted);
-      const found = stateAfter([...lines, ...between.map(line => line.split(" ;")[0])]);
-      const planesOf = state => [0, 1, 2, 3].map(plane => state.plane(plane));
-      assert.deepEqual(planesOf(found), planesOf(wanted), `${lines} to ${other}`);
-      assert.deepEqual([found.registers, found.latches, found.dac], [wanted.registers, wanted.latches, wanted.dac]);
-    }
+/** The bytes of a saved state but for BIOS data, beam and dots: registers, DAC, latches and planes. */
+function held(bytes) {
+  const all = Buffer.from(bytes).subarray(40, 263038);
+  // The beam's place and its counters.
+  all.fill(0, 41 + 26 - 40, 41 + 37 - 40);
+  return all;
+}
+
+test("the cycles of a trace make a state but for its BIOS data, and tell what each read answers", () => {
+  for (const [name, lines] of Object.entries(DONE)) {
+    const wanted = savedAfter([...lines, "frame"]), cycles = cyclesTo(adapter, FONTS, new Uint8Array(wanted));
+    assert.ok(cycles.every(({ line }) => /^(in|out|put|get)w? /.test(line)), name);
+    assert.ok(cycles.every(({ line, read }) => (read !== undefined) === /^(in|get)/.test(line)), name);
+    assert.deepEqual(held(savedAfter(cycles.map(({ line }) => line))), held(wanted), name);
   }
+});
+
+test("the cycles of a call make what the call leaves", () => {
+  const card = new Card(adapter, FONTS), call = (ax, bx, cx, dx) =>
+    ({ registers: new Uint8Array(Uint16Array.of(ax, bx, cx, dx).buffer), block: new Uint8Array() });
+  for (const [ax, bx, cx, dx] of [[0x0e41, 7, 0, 0], [0x0601, 0x1e00, 0, 0x184f], [0x1003, 0, 0, 0], [0x0200, 0, 0, 0x102]]) {
+    const begin = savedAfter([...set(3), int(0x0e42, 7)]);
+    card.restore([new Uint8Array(begin)]);
+    const cycles = cyclesOfCall(State.of(card), call(ax, bx, cx, dx));
+    const found = savedAfter([...set(3), int(0x0e42, 7), ...cycles.map(({ line }) => line)]);
+    assert.ok(cycles.length > 0);
+    assert.deepEqual(held(found), held(savedAfter([...set(3), int(0x0e42, 7), int(ax, bx, cx, dx)])), String(ax));
+  }
+  card.close();
 });

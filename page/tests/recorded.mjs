@@ -7,7 +7,7 @@ import { join } from "node:path";
 import test from "node:test";
 import { Machine, SPEEDS, USUAL_SPEED } from "../machine/machine.js";
 import { Recording } from "../machine/recording.js";
-import { rebuilding, statesOf } from "../machine/rebuilding.js";
+import { rebuildingLines } from "../machine/rebuilt.js";
 import { savedRunText } from "../machine/savedrun.js";
 import { textOfTrace } from "../files/trace.js";
 import { FONTS, PAGE, TOP, loadAdapter, machineParts } from "./loading.mjs";
@@ -51,7 +51,7 @@ function windowOf(software, seconds) {
   const begin = machine.snapshot(null);
   machine.run(seconds * SECOND);
   const { state } = machine.runWindow(begin, 0, machine.moment);
-  const recording = new Recording(rebuilding(state, statesOf(adapter, FONTS)), machine), lines = [], answers = [];
+  const recording = new Recording(rebuildingLines(adapter, FONTS, state), machine), lines = [], answers = [];
   for (let step = recording.head.length; step < recording.length; step++) {
     const entry = recording.entryOf(step), expected = recording.expectedOf(entry);
     lines.push(recording.wordsOf(entry));

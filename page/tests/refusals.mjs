@@ -5,7 +5,7 @@ import { readFileSync } from "node:fs";
 import { Search, pointText } from "../run/points.js";
 import { Session } from "../run/session.js";
 import { changesOf } from "../run/changes.js";
-import { whyRefused } from "../script/refusals.js";
+import { whyRefused } from "../explain/refusals.js";
 import { FONTS, TOP, loadAdapter, runWhole } from "./loading.mjs";
 
 const adapter = await loadAdapter();
@@ -23,7 +23,7 @@ for (const { text, answer, told, anchor } of REFUSED) {
     const session = sessionOf(text), last = session.length - 1;
     assert.equal(session.answers.get(last), answer);
     session.seek(last);
-    const found = whyRefused(session.outline.wordsOf(session.outline.entryOf(last)), answer, session.state());
+    const found = whyRefused(session, last, session.state());
     assert.equal(found.text, told);
     assert.equal(found.link.anchor, anchor);
     session.close();
@@ -83,7 +83,6 @@ const POINTS = [
   [{ kind: "bytes", planes: 15, from: 0, to: 1 }, [1, 3]],
   [{ kind: "colour", index: 1 }, [1, 22]],
   [{ kind: "drawn", line: 1, dot: 200 }, [8, 18]],
-  [{ kind: "start" }, [4, 18]],
 ];
 for (const [point, wanted] of POINTS) {
   test(`breakpoint: ${pointText(point)}`, () => {

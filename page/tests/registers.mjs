@@ -4,7 +4,7 @@ import test from "node:test";
 import { execFileSync } from "node:child_process";
 import { readFileSync, readdirSync } from "node:fs";
 import { GROUPS, bitsOf, fieldValue } from "../module/registers.js";
-import { SERVICE_ANCHORS } from "../script/refusals.js";
+import { SERVICE_ANCHORS } from "../help/services.js";
 import { TOP } from "./loading.mjs";
 
 const page = name => readFileSync(`${TOP}docs/${name}`, "utf-8");

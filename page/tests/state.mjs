@@ -4,9 +4,8 @@ import test from "node:test";
 import { Session } from "../run/session.js";
 import { changedPlanes } from "../run/changes.js";
 import { statusOne } from "../panels/registerpanel.js";
-import { shownBytes } from "../explain/walk.js";
-import { State, characterWidth, dacEntry, fetchAddress, frameShape, frameSpeed,
-  windowShape } from "../module/state.js";
+import { charactersOf, displayedBeams, shownBytes } from "../explain/frame.js";
+import { State, characterWidth, dacEntry, frameShape, frameSpeed } from "../module/state.js";
 import { partsOfSaved } from "./saved.mjs";
 import { Random, stateOf } from "./randomly.mjs";
 import { FONTS, examples, loadAdapter, runWhole } from "./loading.mjs";
@@ -81,8 +80,9 @@ for (const [mode, [width, height, dots, lines]] of Object.entries(SHAPES)) {
   test(`the window of mode ${Number(mode).toString(16)}`, () => {
     const session = runWhole(new Session(adapter, FONTS, `int ax=${Number(mode).toString(16)}\nframe`));
     session.seek(1);
-    const { registers } = session.state(), shape = windowShape(registers);
-    assert.deepEqual([shape.characters * characterWidth(registers), shape.lines], [width, height]);
+    const state = session.state(), { registers } = state;
+    assert.deepEqual([charactersOf(state) * characterWidth(registers), displayedBeams(state).length],
+      [width, height]);
     assert.deepEqual(frameShape(registers), { dots, lines });
     session.close();
   });
@@ -100,7 +100,7 @@ for (const mode of ["3", "D", "12", "13"]) {
     const text = `int ax=${mode}\n${mode === "3" ? "int ax=100 cx=2000\n" : ""}frame`;
     const session = runWhole(new Session(adapter, FONTS, text)), { card } = session;
     session.seek(session.length);
-    const state = card.save(), shown = shownBytes(card.registers()), plain = nextFrame(card);
+    const state = card.save(), shown = shownBytes(State.of(card)), plain = nextFrame(card);
     for (let offset = 0; offset < 65536; offset += 251) {
       const other = state.slice();
       for (const plane of mode === "3" ? [1] : [0, 1, 2, 3]) {
@@ -129,15 +129,6 @@ test("the entry of the DAC that a dot's four bits pick is that of the picture", 
     }
     session.close();
   }
-});
-
-test("fetch addresses of words go round at 65,536", () => {
-  const registers = (underline, mode) => ({ crtc: Uint8Array.from({ length: 25 },
-    (_, i) => (i === 20 ? underline : i === 23 ? mode : 0)) });
-  assert.equal(fetchAddress(registers(0, 0xe3), 0x1234), 0x1234);
-  assert.equal(fetchAddress(registers(0, 0xa3), 0x8001), 3);
-  assert.equal(fetchAddress(registers(0, 0x83), 0x2001), 0x4003);
-  assert.equal(fetchAddress(registers(64, 0xa3), 0x4001), 4);
 });
 
 test("input status 1 is what would be read", () => {
@@ -203,20 +194,6 @@ test("line, frame and rate of random registers are those that the module's clock
   session.close();
 });
 
-test("input status 1 of random registers is what would be read", () => {
-  const { session, card, list } = randomCards(300, 43), seen = {};
-  for (const bytes of list) {
-    card.restore([bytes]);
-    const state = State.of(card), told = statusOne(state).slice(0, 2),
-      room = adapter.room("status", 16);
-    const status = adapter.calls.zak_in(card.at, state.registers.misc & 1 ? 0x3da : 0x3ba, room.at);
-    assert.deepEqual([status, told], [0, adapter.copied(room, 1)[0].toString(16).padStart(2, "0")]);
-    seen[told] = (seen[told] ?? 0) + 1;
-  }
-  assert.equal(Object.keys(seen).length, 4, JSON.stringify(seen));
-  session.close();
-});
-
 test("bytes that are shown by random registers, panned too, are those that change the picture",
   () => {
   const { session, card, random } = randomCards(0, 47), first = card.save();
@@ -231,7 +208,7 @@ test("bytes that are shown by random registers, panned too, are those that chang
     bytes[101 + 772] = 255;
     for (let i = 0; i < 768; i++) bytes[101 + i] = i * 7 & 63;
     card.restore([bytes]);
-    const shown = shownBytes(card.registers()), plain = nextFrame(card);
+    const shown = shownBytes(State.of(card)), plain = nextFrame(card);
     for (let trial = 0; trial < 25; trial++) {
       const from = shown.indexOf(1, random.below(65536)),
         past = shown.indexOf(0, Math.max(0, from));

@@ -11,7 +11,7 @@ import { Random, stateOf } from "./randomly.mjs";
 import { FONTS, TOP, loadAdapter } from "./loading.mjs";
 
 const header = readFileSync(`${TOP}include/zaklimot.h`, "utf-8");
-const BYTES = { uint8_t: 1, uint16_t: 2, uint32_t: 4 };
+const BYTES = { uint8_t: 1, bool: 1, uint16_t: 2, uint32_t: 4, size_t: 8 };
 
 /** The fields of a struct as the header declares them: [name, bytes, how many]. */
 function fieldsOf(name) {
@@ -20,7 +20,8 @@ function fieldsOf(name) {
     const [, type, names] = part.trim().match(/^(\w+)\s+([^]*)$/);
     return names.split(",").map(one => {
       const [, own, count] = one.trim().match(/^(\w+)(?:\[(\d+)\])?$/);
-      return [own, BYTES[type], Number(count ?? 1)];
+      // A struct of bytes within another is told as its bytes.
+      return BYTES[type] ? [own, BYTES[type], Number(count ?? 1)] : [own, 1, STRUCTS[type].length];
     });
   });
 }

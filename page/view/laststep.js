@@ -4,7 +4,7 @@ import { changesOf } from "../run/changes.js";
 import { grouped } from "../common/bytes.js";
 import { isCallAt } from "../run/call.js";
 import { isRefusal } from "../script/expecting.js";
-import { whyRefused } from "../script/refusals.js";
+import { whyRefused } from "../explain/refusals.js";
 
 const MOST_WORDS = 160;
 
@@ -49,14 +49,14 @@ export class LastStep {
     const isRefused = isRefusal(answer);
     setAll(this.#into, { hidden: !isCallAt(session, steps) || isRefused });
     setAll(this.#refusal, { hidden: !isRefused });
-    if (isRefused) this.#showRefusal(words, answer, before);
+    if (isRefused) this.#showRefusal(answer, whyRefused(session, steps - 1, before));
     const changes = changesOf(before, after);
     setText(this.#changes, changes.length ? `Changed: ${changes.join("; ")}.` : "Nothing changed.");
   }
 
-  #showRefusal(words, answer, before) {
-    const { text, link } = whyRefused(words, answer, before);
-    const more = pageLink(this.#pages, link.page, link.anchor, `See ${link.title}.`);
-    this.#refusal.replaceChildren(element("strong", {}, answer), ` ${text} `, more);
+  /** Shows a refusal, and why: null for a step that the card, asked again, would take. */
+  #showRefusal(answer, why) {
+    const more = why && pageLink(this.#pages, why.link.page, why.link.anchor, `See ${why.link.title}.`);
+    this.#refusal.replaceChildren(element("strong", {}, answer), ...why ? [` ${why.text} `, more] : []);
   }
 }

@@ -29,6 +29,7 @@ from zaklimot_tools.dev.page.making import (
     with_kit,
 )
 from zaklimot_tools.dev.page.packing import about, packed
+from zaklimot_tools.dev.page.weighing import weights
 from zaklimot_tools.dev.page.words import MOST_BYTES
 from zaklimot_tools.dev.page.page import (
     DATA,
@@ -242,10 +243,27 @@ class Pages(Folder):
         self.assertEqual(len(small_page(b"", small_sources(fits))), MOST_BYTES)
         told = refused(small_page, b"", small_sources(f"{fits}x"))
         self.assertEqual(
-            told, "zaklimot.html: it would have 800,001 bytes, and 800,000 are the most"
+            told, "zaklimot.html: it would have 1,000,001 bytes, and 1,000,000 are the most"
         )
 
-    def test_the_words_that_the_page_shares_with_the_tools(self) -> None:
+    def test_what_is_added_to_a_page_is_weighed_as_what_it_is(self) -> None:
+        text = PAGE.read_text("utf-8")
+        before = dict(weights(text))
+        self.assertEqual(sum(before.values()), len(text.encode("utf-8")))
+        for kind, mark in (
+            ("code", '<script type="module">\n'),
+            ("editor", "<script>\n"),
+            ("font", '"fonts":"'),
+            ("module", '"module":"'),
+            ("examples", '"tutorial":"'),
+            ("help", '"sections":"'),
+            ("rest", "<title>"),
+        ):
+            with self.subTest(kind):
+                found = dict(weights(text.replace(mark, f"{mark}seven..", 1)))
+                self.assertEqual(found, {**before, kind: before[kind] + 7})
+
+    def test_the_words_that_the_page_has_of_the_tools(self) -> None:
         made = self.folder / "wordings.js"
         status, _, said = call(main_of("vga-page"), "wordings", made)
         self.assertEqual((status, said), (0, ""))

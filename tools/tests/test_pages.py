@@ -16,6 +16,8 @@ from unittest import mock
 from zaklimot import Script, format
 from zaklimot_tools.core.trouble import Wrong
 from zaklimot_tools.dev.page.page import examples
+from zaklimot_tools.dev.page.weighing import table_of, weights
+from zaklimot_tools.dev.page.words import MOST_BYTES as MOST_PAGE_BYTES
 from zaklimot_tools.dev.page_tests import command
 from zaklimot_tools.report.cases import read_cases
 from zaklimot_tools.report.places import SUITE
@@ -251,6 +253,12 @@ class Front(unittest.TestCase):
         self.assertIn(
             f"The page has {size:,} bytes.", (TOP / "docs" / "PAGE.md").read_text("utf-8")
         )
+
+    def test_the_page_that_runs_scripts_has_the_bytes_of_each_kind_that_are_told(self) -> None:
+        weighed = weights((TOP / "page" / "zaklimot.html").read_text("utf-8"))
+        told = (TOP / "docs" / "PAGE.md").read_text("utf-8")
+        self.assertIn(f"\n| In the page | Bytes |\n|---|---|\n{table_of(weighed)}\n\n", told)
+        self.assertIn(f"The page may have {MOST_PAGE_BYTES:,} bytes.", told)
 
 
 # The reference pages, and their sections that are examples and no rules.

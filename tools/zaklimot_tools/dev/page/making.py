@@ -61,7 +61,13 @@ ATTRIBUTES = f'nounwind {QUIET} "target-cpu"="{CPU}"'
 # All that the module may call: these mean the same on both targets. What else it calls is to be
 # looked at first.
 INTRINSICS = frozenset(
-    ("llvm.memset.p0.i64", "llvm.memmove.p0.p0.i64", "llvm.memcpy.p0.p0.i64", "llvm.trap")
+    (
+        "llvm.memset.p0.i64",
+        "llvm.memmove.p0.p0.i64",
+        "llvm.memcpy.p0.p0.i64",
+        "llvm.cttz.i64",
+        "llvm.trap",
+    )
 )
 MEMORY_CALLS = frozenset(("rattle_alloc", "rattle_realloc", "rattle_dealloc"))
 DECLARED = re.compile(r'^declare [^\n]*?@"?([^"(\n]+)"?\(', re.M)

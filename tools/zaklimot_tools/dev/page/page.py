@@ -59,7 +59,8 @@ TUTORIAL_FILE = re.compile(r"In a terminal: `tools/vga-report run examples/tutor
 WORDINGS_HEAD = (
     "// Made of tools/zaklimot_tools/explain/wordings.json by\n// "
     "`tools/vga-page wordings page/script/wordings.js`.\n"
-    "/** The words of bad lines, faults and refusals, and the registers by name, bit and field. */"
+    "/** The words for files and bytes that are no script, and the registers by name, bit and"
+    " field. */"
 )
 MACHINE_MADE = (
     "The processor of the machine in this page is libx86emu's, changed (machine/patches/). Its"
@@ -145,9 +146,24 @@ def styles(folder: Path = SOURCES) -> str:
     return COMMENT.sub("", "".join(path.read_text("utf-8") for path in (first, *others)))
 
 
+def _laid_out(value: Any, depth: int, margin: str = "  ") -> str:
+    """JSON that has lines of its own, behind a margin, for what lies so deep in it."""
+    if not depth or not isinstance(value, (dict, list)):
+        return json.dumps(value, ensure_ascii=False)
+    begin, within = f"\n{margin}", margin + "  "
+    if isinstance(value, list):
+        listed = (_laid_out(one, depth - 1, within) for one in value)
+        return f"[{begin}{f',{begin}'.join(listed)}]"
+    pairs = (
+        f"{json.dumps(name)}: {_laid_out(one, depth - 1, within)}" for name, one in value.items()
+    )
+    return f"{{{begin}{f',{begin}'.join(pairs)}}}"
+
+
 def wordings_module() -> str:
-    """The module `page/script/wordings.js`: the table that the tools read, as the page has it."""
-    table = json.dumps(WORDINGS, ensure_ascii=False, indent=2)
+    """The module `page/script/wordings.js`: the table that the tools read."""
+    # A register has a line.
+    table = _laid_out(WORDINGS, 4)
     return f"{WORDINGS_HEAD}\nexport const WORDINGS = {table};\n"
 
 

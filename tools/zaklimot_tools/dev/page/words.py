@@ -11,7 +11,7 @@ from zaklimot_tools.dev.words import add_proof
 
 
 # The page has so many bytes at most, and the memory of a module so many MiB.
-MOST_BYTES = 800_000
+MOST_BYTES = 1_000_000
 MOST_MEBIBYTES = 4096
 # What jobs of the command line are functions of.
 _job = partial(later, "zaklimot_tools.dev.page.command")
@@ -45,7 +45,7 @@ def _parser() -> argparse.ArgumentParser:
     )
     add_proof(made, usually=usually)
     made.set_defaults(module=None)
-    told = "makes the page's copy of tools/zaklimot_tools/explain/wordings.json, as a module"
+    told = "makes what the page has of tools/zaklimot_tools/explain/wordings.json, as a module"
     example = "tools/vga-page wordings page/script/wordings.js"
     made = cli.command(commands, "wordings", _job("make_wordings"), told, example)
     cli.add(made, "FILE", "the module, page/script/wordings.js in the repository", type=Output)
