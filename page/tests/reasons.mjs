@@ -77,11 +77,11 @@ test("the grammar is that of the bindings for Python, which the tools go by", ()
   const told = python(`
 import zaklimot_tools
 from zaklimot.format import BLOCK_LINES, FORMS, MOST_STEPS, READING, REGISTERS, SHOWN
-from zaklimot_tools.explain.mistakes import SHAPES
+shapes = {name: form.fields for name, form in FORMS.items() if " " not in name and not form.has_block}
 def numbers(table):
     return {name: [[n.name, n.digits, n.least, n.most] for n in shape] for name, shape in table.items()}
 shown = {name: form.fields for name, form in SHOWN.items()}
-print(json.dumps([numbers(SHAPES), numbers(BLOCK_LINES), numbers(shown), list(REGISTERS), list(READING),
+print(json.dumps([numbers(shapes), numbers(BLOCK_LINES), numbers(shown), list(REGISTERS), list(READING),
   MOST_STEPS]))`);
   const numbers = table => Object.fromEntries(Object.entries(table).map(([name, shape]) =>
     [name, shape.map(number => [number.name, number.digits, number.least, number.most])]));
