@@ -108,10 +108,10 @@ class ExplainingCard(OpenCard):
                 other.run_on(rebuilt.script)
                 assert rebuilt.are_dots_other or other.save() == card.save()
 
-        The call runs the script and compares before it returns. It rebuilds each state that steps
-        led to. A restored state may be one that no steps lead to: NotRebuilt. Raises TooLong if the
-        script would have more than 16,777,216 bytes, and OutOfMemory: the call allocates a second
-        card, 7.4 MB, and the bytes of two states.
+        The call runs the script and compares before it returns. As far as tests show, it rebuilds
+        each state that steps led to. A restored state may be one that no steps lead to:
+        NotRebuilt. Raises TooLong if the script would have more than 16,777,216 bytes, and
+        OutOfMemory: the call allocates up to four more cards, some 30 MB.
         """
         room, length, are_other = Room(MOST_BYTES), s.SIZE(), s.BOOL()
         self._call("rebuild", room.pointer, room.size, _byref(length), _byref(are_other))

@@ -535,11 +535,11 @@ zak_status zak_explain_get(zak_card *card, uint32_t address, zak_read_stages *st
 
 /* Writes a script that leads from power-on to the state of the card, with the same fonts. The call
  * runs the script and compares before it answers. *are_dots_other is true if the frame under way
- * was drawn otherwise until now; all else is the same. It rebuilds each state that steps led to. A
- * restored state may be one that no steps lead to: ZAK_NOT_REBUILT. ZAK_NO_ROOM: *script_len is the
- * number of bytes needed, *are_dots_other is written, and script is unchanged. ZAK_TOO_LONG: the
- * script would have more than 16,777,216 bytes. The call allocates up to four more cards, bytes
- * for two states, and the script. ZAK_OUT_OF_MEMORY. */
+ * was drawn otherwise until now; all else is the same. As far as tests show, it rebuilds each state
+ * that steps led to. A restored state may be one that no steps lead to: ZAK_NOT_REBUILT.
+ * ZAK_NO_ROOM: *script_len is the number of bytes needed, *are_dots_other is written, and script is
+ * unchanged. ZAK_TOO_LONG: the script would have more than 16,777,216 bytes. The call allocates up
+ * to four more cards, bytes for two states, and the script. ZAK_OUT_OF_MEMORY. */
 zak_status zak_rebuild(zak_card *card, uint8_t *script, size_t script_cap, size_t *script_len,
                        bool *are_dots_other);
 

@@ -128,7 +128,7 @@ impl Card {
     }
 
     /// Writes a script that leads from power-on to the state of the card. It is run and compared
-    /// before this returns. Each state that steps led to can be rebuilt.
+    /// before this returns. As far as tests show, it rebuilds each state that steps led to.
     ///
     /// ```
     /// use zaklimot::{Card, Regs};
