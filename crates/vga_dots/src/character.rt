@@ -174,7 +174,7 @@ impl TextCharacters {
     /// Eight dots of the ground of an attribute's cells without the cursor, and the bits in which
     /// eight dots of their glyphs differ from it.
     #[inline(always)]
-    pub(crate) fn dots_of_cells(
+    fn dots_of_cells(
         &self,
         display: &Display<'_>,
         colours: &mut TextColours,
@@ -190,20 +190,21 @@ impl TextCharacters {
         ground_and_change(&self.line, attribute, fore, back)
     }
 
-    /// How the cells of an attribute look, which have this ground and this change.
+    /// How the cells of an attribute look.
     #[inline(always)]
     pub(crate) fn look(
         &self,
         display: &Display<'_>,
+        colours: &mut TextColours,
         attribute: u8,
-        ground: EightDots,
-        change: EightDots,
     ) -> CellLook
         requires text { AreTextCharactersOf self.now display.now }
-        requires dots { AreDotsOfCells attribute ground change display.now }
+        requires colours { AreTextColoursOf colours.old display.now }
         ensures look { IsLookOfItsCells result display.now }
         ensures attribute { result.attribute ≡ attribute }
+        ensures colours { AreTextColoursOf colours.new display.now }
     {
+        let (ground, change) = self.dots_of_cells(display, colours, attribute);
         CellLook {
             attribute,
             ground,

@@ -17,7 +17,6 @@ mod source_dot;
 mod text;
 mod text_colours;
 mod text_line;
-mod text_looks;
 mod text_trace;
 mod worked_examples;
 

@@ -16,7 +16,7 @@ use crate::colour::BLACK;
 use crate::display::Display;
 use crate::row::{copy_dots, fill_characters};
 use crate::source_dot::panning_shift;
-use crate::text_looks::TextLooks;
+use crate::text_colours::TextColours;
 use vga_attr::Attr;
 use vga_crtc::{Crtc, Registers};
 use vga_dac::Dac;
@@ -91,14 +91,14 @@ fn draw_cells<const CW: usize>(
     ensures { AreCharactersPut CW count (λ x. unpanned_colour display.now (first + x)) row.old
         row.new }
 {
-    let mut looks = TextLooks::new();
-    let mut look = looks.look(display, characters, USUAL_ATTRIBUTE);
+    let mut colours = TextColours::new();
+    let mut look = characters.look(display, &mut colours, USUAL_ATTRIBUTE);
     let start = display.counter(first as u16);
     for x in 0..count {
         let counter = start.wrapping_add(x as u16);
         let cell = characters.cell(display, counter);
         if cell.attribute != look.attribute {
-            look = looks.look(display, characters, cell.attribute);
+            look = characters.look(display, &mut colours, cell.attribute);
         }
         characters.put::<CW>(display, counter, cell, look, row, x * CW);
     }

@@ -1,7 +1,7 @@
 use Rattle.std.proofs.Common.{◌+◌, ◌*◌, arith, sym, subst}
 use Rattle.vga_dots.specs.declared.character.CellLook.{CellLook}
-use Rattle.vga_dots.specs.declared.text_looks.TextLooks.{TextLooks}
-use Rattle.vga_dots.specs.TextLooks.{AreTextLooksOf}
+use Rattle.vga_dots.specs.declared.text_colours.TextColours.{TextColours}
+use Rattle.vga_dots.specs.TextColours.{AreTextColoursOf}
 use Rattle.vga_dots.specs.Row.{AreDotsPut}
 use Rattle.vga_dots.specs.Line.{dot_of_counter, colour_of_source_dot, unpanned_colour}
 use Rattle.vga_dots.specs.Character.{IsLookOfItsCells}
@@ -22,10 +22,10 @@ loop-x-preserved g c =
         | else-cell-look w ↦ subst (λ (look : CellLook). IsLookOfItsCells look d) (sym w.look-is) c.loop-x.invariant.1
       ],
       elim c.if-cell-look.branch [
-        | then-cell-look w ↦ subst (λ (looks : TextLooks). AreTextLooksOf looks d) (sym w.looks-is) w.look-look-then-cell-look.ensures.looks
-        | else-cell-look w ↦ subst (λ (looks : TextLooks). AreTextLooksOf looks d) (sym w.looks-is) c.loop-x.invariant.2
+        | then-cell-look w ↦ subst (λ (colours : TextColours). AreTextColoursOf colours d) (sym w.colours-is) w.look-look-then-cell-look.ensures.colours
+        | else-cell-look w ↦ subst (λ (colours : TextColours). AreTextColoursOf colours d) (sym w.colours-is) c.loop-x.invariant.2
       ],
     )
 
-pub look-look-requires-clause-looks : goal.look-look-requires-clause-looks
-look-look-requires-clause-looks g c = c.new-looks.ensures c.args.display.now
+pub look-look-requires-clause-colours : goal.look-look-requires-clause-colours
+look-look-requires-clause-colours g c = c.new-colours.ensures c.args.display.now

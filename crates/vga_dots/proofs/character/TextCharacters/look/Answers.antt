@@ -11,7 +11,7 @@ returns-clause-look c =
     let line = c.args.self.now.line in
     let attribute = c.args.attribute in
     record {
-      dots = c.requires.dots;
+      dots = c.dots_of_cells.ensures.dots;
       glyphs = λ character. row_of_glyph d.host d.crtc d.attr line c.requires.text.line (cell_of attribute character) _
           (ap (λ (g : ℕ). g + 32 * character) c.row_address_of_first_glyph.ensures);
       bound = glyphs_bound (is_set attribute 3) line.map_a line.map_b _ c.requires.text.glyphs.map_a c.requires.text.glyphs.map_b c.row_address_of_first_glyph.ensures;
