@@ -49,12 +49,12 @@ impl NotRebuilt {
     }
 }
 
-/// The fault that ended the building or the run of a script. The report of the run is written to
-/// memory, so that its writer fails only if an allocation does.
+/// The fault that ended the building or the run of a script. No write fails: what the steps answer
+/// is thrown away.
 impl From<Fault> for NotRebuilt {
     fn from(fault: Fault) -> NotRebuilt {
         match fault {
-            Fault::OutOfMemory | Fault::WriteFault => NotRebuilt::OutOfMemory,
+            Fault::OutOfMemory => NotRebuilt::OutOfMemory,
             Fault::TooLong | Fault::TooMany(_) => NotRebuilt::TooLong,
             _ => NotRebuilt::NotLedThere,
         }

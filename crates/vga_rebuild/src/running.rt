@@ -3,6 +3,7 @@ ghost use Rattle.std.specs.Prelude.{◌≡◌, IfOk};
 ghost use Rattle.vga_rebuild.specs.Rebuilt.{LeadsTo};
 
 use std::alloc::Global;
+use std::io;
 use vga_bits::{Fault, Tracked};
 use vga_run::machine::Machine;
 use vga_script::Steps;
@@ -21,7 +22,8 @@ pub(crate) fn machine_after(
 {
     let steps = Steps::of(script)?;
     let mut machine = Machine::power_on(alloc, target.fonts.copy(alloc)?)?;
-    let mut report = Tracked::new(Vec::new(alloc));
+    // Nobody reads what the steps answer.
+    let mut report = Tracked::new(io::sink());
     machine.report(alloc, steps, &mut report, None)?;
     Ok(machine)
 }
