@@ -93,7 +93,7 @@ CASES = (
         MistakeKind.SHOW,
         "what is to be shown is lacking: regs, dac, beam, latches, plane, bda, cells",
     ),
-    Case("show plane 0 FFFF 2", 1, "2", MistakeKind.SHOW, "from FFFF on the plane has 1 bytes"),
+    Case("show plane 0 FFFF 2", 1, "2", MistakeKind.SHOW, "from FFFF on the plane has 1 byte"),
     Case(
         "int al=3",
         1,

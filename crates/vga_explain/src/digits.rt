@@ -72,3 +72,26 @@ impl Display for Decimal {
         f.write_str(digits.format(self.0))
     }
 }
+
+/// So many things: `1 cell`, `5 cells`.
+#[derive(Clone, Copy, Drop)]
+pub(crate) struct Things {
+    count: u32,
+    one: &'static str,
+}
+
+impl Things {
+    /// So many of what `one` names.
+    pub(crate) fn of(count: u32, one: &'static str) -> Things {
+        Things { count, one }
+    }
+}
+
+impl Display for Things {
+    fn fmt<W: Write>(&self, f: &mut Formatter<W>) -> fmt::Result {
+        Decimal(self.count).fmt(f)?;
+        f.write_str(" ")?;
+        f.write_str(self.one)?;
+        f.write_str(if self.count == 1 { "" } else { "s" })
+    }
+}

@@ -1,7 +1,7 @@
 //! What is wrong with the block of a call.
 
 use super::digits::Digits;
-use super::sentence::write_decimal;
+use super::sentence::{write_count_of_bytes, write_decimal};
 use std::fmt;
 use vga_script::MOST_BLOCK_DIGITS;
 
@@ -50,8 +50,7 @@ impl fmt::Display for BlockMistake<'_> {
             }
             BlockMistake::TooLong => {
                 f.write_str("a block has at most ")?;
-                write_decimal(f, (MOST_BLOCK_DIGITS / 2) as u64)?;
-                f.write_str(" bytes")
+                write_count_of_bytes(f, (MOST_BLOCK_DIGITS / 2) as u64)
             }
         }
     }

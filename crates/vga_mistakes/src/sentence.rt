@@ -13,6 +13,15 @@ pub(crate) fn write_decimal<W: fmt::Write>(f: &mut fmt::Formatter<W>, number: u6
     f.write_str(digits.format(number))
 }
 
+/// Writes how many bytes there are: `1 byte`, `5 bytes`.
+pub(crate) fn write_count_of_bytes<W: fmt::Write>(
+    f: &mut fmt::Formatter<W>,
+    count: u64,
+) -> fmt::Result {
+    write_decimal(f, count)?;
+    f.write_str(if count == 1 { " byte" } else { " bytes" })
+}
+
 /// Writes the two hexadecimal digits of a byte.
 pub(crate) fn write_hex_byte<W: fmt::Write>(f: &mut fmt::Formatter<W>, byte: u8) -> fmt::Result {
     f.write_char(hex_digit(byte / 16) as char)?;

@@ -1,6 +1,6 @@
 //! What is wrong with what a step shows.
 
-use super::sentence::{write_decimal, write_hex_word, write_quoted};
+use super::sentence::{write_count_of_bytes, write_hex_word, write_quoted};
 use std::fmt;
 use vga_script::PLANE_LEN;
 
@@ -41,8 +41,7 @@ impl fmt::Display for ShowMistake<'_> {
                 f.write_str("from ")?;
                 write_hex_word(f, *offset)?;
                 f.write_str(" on the plane has ")?;
-                write_decimal(f, (PLANE_LEN - *offset as u32) as u64)?;
-                f.write_str(" bytes")
+                write_count_of_bytes(f, (PLANE_LEN - *offset as u32) as u64)
             }
         }
     }

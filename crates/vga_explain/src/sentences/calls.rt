@@ -1,13 +1,13 @@
 //! Why a call of the video BIOS is refused, in words.
 
 use super::NO_MODE_SET;
-use crate::digits::{Decimal, Hex};
+use crate::digits::{Decimal, Hex, Things};
 use bios_services::CallReason;
 use std::fmt::{self, Formatter, Write};
 
 /// A count of bytes, which are never more than a block's.
-fn size(size: usize) -> Decimal {
-    Decimal(size.min(u32::MAX as usize) as u32)
+fn size(size: usize) -> u32 {
+    size.min(u32::MAX as usize) as u32
 }
 
 /// Why what a call asks for is not there: no function, mode, register or entry.
@@ -104,17 +104,18 @@ fn write_outside<W: Write>(f: &mut Formatter<W>, reason: CallReason) -> fmt::Res
             first,
             cells,
         } => {
-            let (count, left) = (Decimal(count as u32), Decimal(cells.saturating_sub(first)));
+            let left = Things::of(cells.saturating_sub(first), "cell");
+            let count = Decimal(count as u32);
             write!(
                 f,
-                "From the cursor on the page has {left} cells, and this call writes {count}."
+                "From the cursor on the page has {left}, and this call writes {count}."
             )
         }
         CallReason::GlyphsPast { count, first } => {
-            let (count, first) = (Decimal(count as u32), Hex::word(first));
+            let (glyphs, first) = (Things::of(count as u32, "glyph"), Hex::word(first));
             write!(
                 f,
-                "The characters end at FF, and this call loads {count} glyphs from {first} on."
+                "The characters end at FF, and this call loads {glyphs} from {first} on."
             )
         }
         _ => write_missing(f, reason),
@@ -140,11 +141,8 @@ pub(super) fn write_call_reason<W: Write>(f: &mut Formatter<W>, reason: CallReas
             )
         }
         CallReason::WrongBlock { len, wanted } => {
-            let (len, wanted) = (size(len), size(wanted));
-            write!(
-                f,
-                "The block has {len} bytes, and this call takes {wanted}."
-            )
+            let (bytes, wanted) = (Things::of(size(len), "byte"), Decimal(size(wanted)));
+            write!(f, "The block has {bytes}, and this call takes {wanted}.")
         }
         _ => write_outside(f, reason),
     }
