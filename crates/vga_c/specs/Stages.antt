@@ -1,5 +1,5 @@
 -- What a write to the display memory or a read of it does on its way, as the caller gets it.
-use Rattle.std.specs.Prelude.{◌≡◌, ◌⊎◌, ◌%◌, ℕ, true, false, List, [], ◌∷◌}
+use Rattle.std.specs.Prelude.{◌≡◌, ◌⊎◌, ℕ, true, false, List, [], ◌∷◌}
 use Rattle.vga_bits.specs.declared.refusal.Refusal.TheVariants.{NotDecoded}
 use Rattle.vga_bits.specs.Four.{Four}
 use Rattle.vga_bits.specs.Words.{plane_bytes_of_word}
@@ -40,7 +40,7 @@ get_stages_of stages = record {
   offset = stages.offset;
   loaded = bytes_in_plane_order stages.loaded;
   is_compare = flag stages.is_compare;
-  plane = stages.plane % 4;
+  plane = stages.plane;
   value = stages.value;
 }
 

@@ -1,5 +1,5 @@
 //! Cycles of an open card, and dots of its clock.
-ghost use Rattle.std.specs.Prelude.{◌≡◌, ◌≤◌};
+ghost use Rattle.std.specs.Prelude.{◌≡◌, ◌≤◌, true, false};
 ghost use Rattle.vga_card.specs.Dots.{most_dots_of_an_advance};
 ghost use Rattle.vga_script.specs.declared.step.Step.TheVariants.{Out, OutWord, In, InWord, Put};
 ghost use Rattle.vga_script.specs.declared.step.Step.TheVariants.{PutWord, Get, GetWord, Advance};
@@ -7,9 +7,10 @@ ghost use Rattle.vga_run.specs.Step.{after_step, answer_to};
 ghost use Rattle.vga_c.specs.Status.{status_of, value_read_or_before};
 ghost use Rattle.vga_c.specs.Cards.{ClosedCardStaysUnchanged, OutputHasWhatStepReads, ClosedCardLeavesOutput, OpenCardTakesStep};
 
-use crate::handle::{Handle, on_open_card, on_owing_card};
+use crate::handle::{Handle, at_once, before_dots, on_open_card, on_owing_card};
 use crate::status::{DONE, status_after_byte_read, status_after_word_read, status_after_write};
 use std::alloc::Global;
+use vga_card::laws::dots_split;
 use vga_run::machine::Machine;
 
 /// Writes a byte to a port after the dots that are owed. It gives how many are owed from then on.
@@ -25,13 +26,37 @@ fn out(machine: &mut Machine, owed: u32, port: u16, value: u8) -> (u32, u32)
     (left, status_after_write(answer))
 }
 
+/// Writes a byte to a port, if none of the dots that are owed sees it and it is not refused. It
+/// returns whether it did; if not, nothing changes.
+#[tactic(auto, unfolding(vga_run::specs::Step::after_step, vga_run::specs::Step::answer_to))]
+fn out_before_dots(machine: &mut Machine, owed: u32, port: u16, value: u8) -> bool
+    requires { owed ≤ most_dots_of_an_advance }
+    ensures after { result ≡ true → after_step machine.new (Advance owed)
+        ≡ after_step (after_step machine.old (Advance owed)) (Out port value) }
+    ensures status { result ≡ true
+        → status_of (answer_to (after_step machine.old (Advance owed)) (Out port value)) ≡ 0 }
+    ensures left { result ≡ false → machine.new ≡ machine.old }
+{
+    machine.card.out_before_dots(port, value)
+}
+
+/// Writes a byte to a port after the dots that are owed.
+#[inline(never)]
+fn out_on_owing_card(alloc: Global, card: &mut Handle, port: u16, value: u8) -> u32
+    ensures step { OpenCardTakesStep (Out port value) card.old card.new result }
+    ensures closed { ClosedCardStaysUnchanged card.old card.new result }
+{
+    on_owing_card!(alloc, card, machine, owed => out(machine, owed, port, value))
+}
+
 /// Writes a byte to a port.
 #[unsafe(no_mangle)]
 pub extern "C" fn zak_out(alloc: Global, card: &mut Handle, port: u16, value: u8) -> u32
     ensures step { OpenCardTakesStep (Out port value) card.old card.new result }
     ensures closed { ClosedCardStaysUnchanged card.old card.new result }
 {
-    on_owing_card!(alloc, card, machine, owed => out(machine, owed, port, value))
+    before_dots!(alloc, card, machine, owed => out_before_dots(machine, owed, port, value));
+    out_on_owing_card(alloc, card, port, value)
 }
 
 /// Writes a word to a port and the next port after the dots that are owed. It gives how many are
@@ -48,13 +73,37 @@ fn out_word(machine: &mut Machine, owed: u32, port: u16, value: u16) -> (u32, u3
     (left, status_after_write(answer))
 }
 
+/// Writes a word to a port and the next port, if none of the dots that are owed sees it and it is not
+/// refused. It returns whether it did; if not, nothing changes.
+#[tactic(auto, unfolding(vga_run::specs::Step::after_step, vga_run::specs::Step::answer_to))]
+fn out_word_before_dots(machine: &mut Machine, owed: u32, port: u16, value: u16) -> bool
+    requires { owed ≤ most_dots_of_an_advance }
+    ensures after { result ≡ true → after_step machine.new (Advance owed)
+        ≡ after_step (after_step machine.old (Advance owed)) (OutWord port value) }
+    ensures status { result ≡ true
+        → status_of (answer_to (after_step machine.old (Advance owed)) (OutWord port value)) ≡ 0 }
+    ensures left { result ≡ false → machine.new ≡ machine.old }
+{
+    machine.card.out_word_before_dots(port, value)
+}
+
+/// Writes a word to a port and the next port after the dots that are owed.
+#[inline(never)]
+fn out_word_on_owing_card(alloc: Global, card: &mut Handle, port: u16, value: u16) -> u32
+    ensures step { OpenCardTakesStep (OutWord port value) card.old card.new result }
+    ensures closed { ClosedCardStaysUnchanged card.old card.new result }
+{
+    on_owing_card!(alloc, card, machine, owed => out_word(machine, owed, port, value))
+}
+
 /// Writes a word to a port and the next port.
 #[unsafe(no_mangle)]
 pub extern "C" fn zak_out_word(alloc: Global, card: &mut Handle, port: u16, value: u16) -> u32
     ensures step { OpenCardTakesStep (OutWord port value) card.old card.new result }
     ensures closed { ClosedCardStaysUnchanged card.old card.new result }
 {
-    on_owing_card!(alloc, card, machine, owed => out_word(machine, owed, port, value))
+    before_dots!(alloc, card, machine, owed => out_word_before_dots(machine, owed, port, value));
+    out_word_on_owing_card(alloc, card, port, value)
 }
 
 /// Reads a byte from a port after the dots that are owed. It gives how many are owed from then on.
@@ -73,6 +122,37 @@ fn inp(machine: &mut Machine, owed: u32, port: u16, value: &mut u8) -> (u32, u32
     (left, status_after_byte_read(answer, value))
 }
 
+/// Reads input status 1, if the port is its port. It returns whether it did; if not, nothing
+/// changes.
+#[tactic(auto, unfolding(vga_run::specs::Step::after_step, vga_run::specs::Step::answer_to))]
+fn inp_status_at_once(machine: &mut Machine, port: u16, value: &mut u8) -> bool
+    ensures after { result ≡ true → machine.new ≡ after_step machine.old (In port) }
+    ensures status { result ≡ true → status_of (answer_to machine.old (In port)) ≡ 0 }
+    ensures value { result ≡ true
+        → value.new ≡ value_read_or_before (answer_to machine.old (In port)) value.old }
+    ensures left { result ≡ false → machine.new ≡ machine.old }
+    ensures spared { result ≡ false → value.new ≡ value.old }
+{
+    match machine.card.inp_status(port) {
+        Some(read) => {
+            *value = read;
+            true
+        }
+        None => false,
+    }
+}
+
+/// Reads a byte from a port after the dots that are owed.
+#[inline(never)]
+fn inp_on_owing_card(alloc: Global, card: &mut Handle, port: u16, value: &mut u8) -> u32
+    ensures step { OpenCardTakesStep (In port) card.old card.new result }
+    ensures value { OutputHasWhatStepReads (In port) card.old value.old value.new }
+    ensures closed { ClosedCardStaysUnchanged card.old card.new result }
+    ensures spared { ClosedCardLeavesOutput card.old value.old value.new }
+{
+    on_owing_card!(alloc, card, machine, owed => inp(machine, owed, port, value))
+}
+
 /// Reads a byte from a port.
 #[unsafe(no_mangle)]
 pub extern "C" fn zak_in(alloc: Global, card: &mut Handle, port: u16, value: &mut u8) -> u32
@@ -81,7 +161,8 @@ pub extern "C" fn zak_in(alloc: Global, card: &mut Handle, port: u16, value: &mu
     ensures closed { ClosedCardStaysUnchanged card.old card.new result }
     ensures spared { ClosedCardLeavesOutput card.old value.old value.new }
 {
-    on_owing_card!(alloc, card, machine, owed => inp(machine, owed, port, value))
+    at_once!(alloc, card, machine => inp_status_at_once(machine, port, value));
+    inp_on_owing_card(alloc, card, port, value)
 }
 
 /// Reads a word from a port and the next port.
@@ -120,13 +201,59 @@ fn put(machine: &mut Machine, owed: u32, address: u32, value: u8) -> (u32, u32)
     (left, status_after_write(answer))
 }
 
+/// Writes a byte to an address, if it is stored unchanged. It returns whether it did; if not,
+/// nothing changes.
+#[tactic(auto, unfolding(vga_run::specs::Step::after_step, vga_run::specs::Step::answer_to))]
+fn put_at_once(machine: &mut Machine, address: u32, value: u8) -> bool
+    ensures after { result ≡ true → machine.new ≡ after_step machine.old (Put address value) }
+    ensures status { result ≡ true → status_of (answer_to machine.old (Put address value)) ≡ 0 }
+    ensures left { result ≡ false → machine.new ≡ machine.old }
+{
+    dots_split();
+    machine.card.put_before_dots(0, address, value)
+}
+
+/// Writes a byte to an address, if none of the dots that are owed sees it and it is stored
+/// unchanged. It returns whether it did; if not, nothing changes.
+#[tactic(auto, unfolding(vga_run::specs::Step::after_step, vga_run::specs::Step::answer_to))]
+fn put_before_dots(machine: &mut Machine, owed: u32, address: u32, value: u8) -> bool
+    requires { owed ≤ most_dots_of_an_advance }
+    ensures after { result ≡ true → after_step machine.new (Advance owed)
+        ≡ after_step (after_step machine.old (Advance owed)) (Put address value) }
+    ensures status { result ≡ true
+        → status_of (answer_to (after_step machine.old (Advance owed)) (Put address value)) ≡ 0 }
+    ensures left { result ≡ false → machine.new ≡ machine.old }
+{
+    machine.card.put_before_dots(owed, address, value)
+}
+
+/// Writes a byte to an address, after those of the dots that are owed that may see it.
+#[inline(never)]
+fn put_after_dots(alloc: Global, card: &mut Handle, address: u32, value: u8) -> u32
+    ensures step { OpenCardTakesStep (Put address value) card.old card.new result }
+    ensures closed { ClosedCardStaysUnchanged card.old card.new result }
+{
+    on_owing_card!(alloc, card, machine, owed => put(machine, owed, address, value))
+}
+
+/// Writes a byte to an address of a card that may owe dots.
+#[inline(never)]
+fn put_on_owing_card(alloc: Global, card: &mut Handle, address: u32, value: u8) -> u32
+    ensures step { OpenCardTakesStep (Put address value) card.old card.new result }
+    ensures closed { ClosedCardStaysUnchanged card.old card.new result }
+{
+    before_dots!(alloc, card, machine, owed => put_before_dots(machine, owed, address, value));
+    put_after_dots(alloc, card, address, value)
+}
+
 /// Writes a byte to an address.
 #[unsafe(no_mangle)]
 pub extern "C" fn zak_put(alloc: Global, card: &mut Handle, address: u32, value: u8) -> u32
     ensures step { OpenCardTakesStep (Put address value) card.old card.new result }
     ensures closed { ClosedCardStaysUnchanged card.old card.new result }
 {
-    on_owing_card!(alloc, card, machine, owed => put(machine, owed, address, value))
+    at_once!(alloc, card, machine => put_at_once(machine, address, value));
+    put_on_owing_card(alloc, card, address, value)
 }
 
 /// Writes a word to an address and the next address, after the dots that are owed. It gives how
@@ -143,13 +270,34 @@ fn put_word(machine: &mut Machine, owed: u32, address: u32, value: u16) -> (u32,
     (left, status_after_write(answer))
 }
 
+/// Writes a word to an address and the next address, if its bytes are stored unchanged. It returns
+/// whether it did; if not, nothing changes.
+#[tactic(auto, unfolding(vga_run::specs::Step::after_step, vga_run::specs::Step::answer_to))]
+fn put_word_at_once(machine: &mut Machine, address: u32, value: u16) -> bool
+    ensures after { result ≡ true → machine.new ≡ after_step machine.old (PutWord address value) }
+    ensures status { result ≡ true → status_of (answer_to machine.old (PutWord address value)) ≡ 0 }
+    ensures left { result ≡ false → machine.new ≡ machine.old }
+{
+    machine.card.put_word_if_unchanged(address, value)
+}
+
+/// Writes a word to an address and the next address after the dots that are owed.
+#[inline(never)]
+fn put_word_on_owing_card(alloc: Global, card: &mut Handle, address: u32, value: u16) -> u32
+    ensures step { OpenCardTakesStep (PutWord address value) card.old card.new result }
+    ensures closed { ClosedCardStaysUnchanged card.old card.new result }
+{
+    on_owing_card!(alloc, card, machine, owed => put_word(machine, owed, address, value))
+}
+
 /// Writes a word to an address and the next address.
 #[unsafe(no_mangle)]
 pub extern "C" fn zak_put_word(alloc: Global, card: &mut Handle, address: u32, value: u16) -> u32
     ensures step { OpenCardTakesStep (PutWord address value) card.old card.new result }
     ensures closed { ClosedCardStaysUnchanged card.old card.new result }
 {
-    on_owing_card!(alloc, card, machine, owed => put_word(machine, owed, address, value))
+    at_once!(alloc, card, machine => put_word_at_once(machine, address, value));
+    put_word_on_owing_card(alloc, card, address, value)
 }
 
 /// Reads a byte from an address after the dots that are owed. It gives how many are owed from then
@@ -169,6 +317,41 @@ fn get(machine: &mut Machine, owed: u32, address: u32, value: &mut u8) -> (u32, 
     (owed, status_after_byte_read(answer, value))
 }
 
+/// Reads a byte from an address, if it is decoded and read mode is 0. It returns whether it did; if
+/// not, nothing changes.
+#[tactic(auto, unfolding(vga_run::specs::Step::after_step, vga_run::specs::Step::answer_to))]
+fn get_before_dots(machine: &mut Machine, owed: u32, address: u32, value: &mut u8) -> bool
+    requires { owed ≤ most_dots_of_an_advance }
+    ensures after { result ≡ true → after_step machine.new (Advance owed)
+        ≡ after_step (after_step machine.old (Advance owed)) (Get address) }
+    ensures status { result ≡ true
+        → status_of (answer_to (after_step machine.old (Advance owed)) (Get address)) ≡ 0 }
+    ensures value { result ≡ true → value.new
+        ≡ value_read_or_before (answer_to (after_step machine.old (Advance owed)) (Get address))
+        value.old }
+    ensures left { result ≡ false → machine.new ≡ machine.old }
+    ensures spared { result ≡ false → value.new ≡ value.old }
+{
+    match machine.card.get_from_plane_before_dots(address) {
+        Some(read) => {
+            *value = read;
+            true
+        }
+        None => false,
+    }
+}
+
+/// Reads a byte from an address after the dots that are owed.
+#[inline(never)]
+fn get_on_owing_card(alloc: Global, card: &mut Handle, address: u32, value: &mut u8) -> u32
+    ensures step { OpenCardTakesStep (Get address) card.old card.new result }
+    ensures value { OutputHasWhatStepReads (Get address) card.old value.old value.new }
+    ensures closed { ClosedCardStaysUnchanged card.old card.new result }
+    ensures spared { ClosedCardLeavesOutput card.old value.old value.new }
+{
+    on_owing_card!(alloc, card, machine, owed => get(machine, owed, address, value))
+}
+
 /// Reads a byte from an address.
 #[unsafe(no_mangle)]
 pub extern "C" fn zak_get(alloc: Global, card: &mut Handle, address: u32, value: &mut u8) -> u32
@@ -177,7 +360,8 @@ pub extern "C" fn zak_get(alloc: Global, card: &mut Handle, address: u32, value:
     ensures closed { ClosedCardStaysUnchanged card.old card.new result }
     ensures spared { ClosedCardLeavesOutput card.old value.old value.new }
 {
-    on_owing_card!(alloc, card, machine, owed => get(machine, owed, address, value))
+    before_dots!(alloc, card, machine, owed => get_before_dots(machine, owed, address, value));
+    get_on_owing_card(alloc, card, address, value)
 }
 
 /// Reads a word from an address and the next address, after the dots that are owed. It gives how
@@ -197,6 +381,41 @@ fn get_word(machine: &mut Machine, owed: u32, address: u32, value: &mut u16) -> 
     (owed, status_after_word_read(answer, value))
 }
 
+/// Reads a word from an address and the next address, if both are decoded and read mode is 0. It
+/// returns whether it did; if not, nothing changes.
+#[tactic(auto, unfolding(vga_run::specs::Step::after_step, vga_run::specs::Step::answer_to))]
+fn get_word_before_dots(machine: &mut Machine, owed: u32, address: u32, value: &mut u16) -> bool
+    requires { owed ≤ most_dots_of_an_advance }
+    ensures after { result ≡ true → after_step machine.new (Advance owed)
+        ≡ after_step (after_step machine.old (Advance owed)) (GetWord address) }
+    ensures status { result ≡ true
+        → status_of (answer_to (after_step machine.old (Advance owed)) (GetWord address)) ≡ 0 }
+    ensures value { result ≡ true → value.new
+        ≡ value_read_or_before (answer_to (after_step machine.old (Advance owed)) (GetWord address))
+        value.old }
+    ensures left { result ≡ false → machine.new ≡ machine.old }
+    ensures spared { result ≡ false → value.new ≡ value.old }
+{
+    match machine.card.get_word_from_planes_before_dots(address) {
+        Some(read) => {
+            *value = read;
+            true
+        }
+        None => false,
+    }
+}
+
+/// Reads a word from an address and the next address after the dots that are owed.
+#[inline(never)]
+fn get_word_on_owing_card(alloc: Global, card: &mut Handle, address: u32, value: &mut u16) -> u32
+    ensures step { OpenCardTakesStep (GetWord address) card.old card.new result }
+    ensures value { OutputHasWhatStepReads (GetWord address) card.old value.old value.new }
+    ensures closed { ClosedCardStaysUnchanged card.old card.new result }
+    ensures spared { ClosedCardLeavesOutput card.old value.old value.new }
+{
+    on_owing_card!(alloc, card, machine, owed => get_word(machine, owed, address, value))
+}
+
 /// Reads a word from an address and the next address.
 #[unsafe(no_mangle)]
 pub extern "C" fn zak_get_word(
@@ -210,7 +429,8 @@ pub extern "C" fn zak_get_word(
     ensures closed { ClosedCardStaysUnchanged card.old card.new result }
     ensures spared { ClosedCardLeavesOutput card.old value.old value.new }
 {
-    on_owing_card!(alloc, card, machine, owed => get_word(machine, owed, address, value))
+    before_dots!(alloc, card, machine, owed => get_word_before_dots(machine, owed, address, value));
+    get_word_on_owing_card(alloc, card, address, value)
 }
 
 /// Lets the clock run for `dots` dots.

@@ -50,6 +50,22 @@ impl Handle {
         self.is_open
     }
 
+    /// Whether the card is open, and owes no dots.
+    pub(crate) fn is_open_and_owes_none(&self) -> bool
+        ensures open { result ≡ true → self.now.is_open ≡ true }
+        ensures none { result ≡ true → self.now.owed ≡ 0 }
+    {
+        self.is_open && self.owed == 0
+    }
+
+    /// Whether the card is open, and owes no more dots than one advance may take.
+    pub(crate) fn is_open_and_owes_few(&self) -> bool
+        ensures open { result ≡ true → self.now.is_open ≡ true }
+        ensures few { result ≡ true → self.now.owed ≤ most_dots_of_an_advance }
+    {
+        self.is_open && self.owed <= MOST_DOTS
+    }
+
     /// Adds dots to those that the card owes, unless the sum is more than one advance may take.
     /// Returns whether it did.
     pub(crate) fn owe(&mut self, dots: u32) -> bool
@@ -103,6 +119,40 @@ macro_rules! on_owing_card {
     }};
 }
 
+/// Tries a call on the machine of a card in place, if the card owes no dots. Where it is done, its
+/// status is 0 and is returned; where it is not, nothing has changed. This serves speed alone:
+/// nothing is called, so no register is saved for it.
+macro_rules! at_once {
+    ($alloc:ident, $card:ident, $machine:ident => $tried:expr) => {{
+        if $card.is_open_and_owes_none() {
+            let mut held = crate::handle::take($alloc, $card);
+            let $machine = held.as_mut();
+            let done = $tried;
+            crate::handle::give($card, held);
+            if done {
+                return crate::status::DONE;
+            }
+        }
+    }};
+}
+
+/// The same, for a call that leaves the dots owed that are owed before.
+macro_rules! before_dots {
+    ($alloc:ident, $card:ident, $machine:ident, $owed:ident => $tried:expr) => {{
+        if $card.is_open_and_owes_few() {
+            let (mut held, $owed) = crate::handle::take_few_owing($alloc, $card);
+            let $machine = held.as_mut();
+            let done = $tried;
+            crate::handle::give_owing($card, held, $owed);
+            if done {
+                return crate::status::DONE;
+            }
+        }
+    }};
+}
+
+pub(crate) use at_once;
+pub(crate) use before_dots;
 pub(crate) use on_open_card;
 pub(crate) use on_owing_card;
 
@@ -165,7 +215,19 @@ pub(crate) fn give(card: &mut Handle, machine: Box<Machine>)
 }
 
 /// The machine that an open card keeps, whose handle is empty from then on, and the dots that it
-/// owes.
+/// owes. They are no more than one advance may take.
+pub(crate) fn take_few_owing(alloc: Global, card: &mut Handle) -> (Box<Machine>, u32)
+    requires open { card.old.is_open ≡ true }
+    requires few { card.old.owed ≤ most_dots_of_an_advance }
+    ensures machine { after_step result.0.value (Advance result.1) ≡ machine_after_owed_dots card.old }
+    ensures few { result.1 ≤ most_dots_of_an_advance }
+    ensures closed { card.new.is_open ≡ false }
+{
+    let owed = card.owed;
+    (take_machine_without_owed_dots(alloc, card), owed)
+}
+
+/// The same, however many dots an open card owes.
 pub(crate) fn take_owing(alloc: Global, card: &mut Handle) -> (Box<Machine>, u32)
     requires { card.old.is_open ≡ true }
     ensures machine { after_step result.0.value (Advance result.1) ≡ machine_after_owed_dots card.old }
@@ -176,8 +238,7 @@ pub(crate) fn take_owing(alloc: Global, card: &mut Handle) -> (Box<Machine>, u32
         dots_split();
         return (take(alloc, card), 0);
     }
-    let owed = card.owed;
-    (take_machine_without_owed_dots(alloc, card), owed)
+    take_few_owing(alloc, card)
 }
 
 /// Gives a machine to a handle, which is open from then on and owes some dots.

@@ -74,7 +74,7 @@ fn get_stages_of(stages: ReadStages) -> GetStages
         offset: stages.offset,
         loaded: bytes_of(stages.loaded),
         is_compare: stages.is_compare as u8,
-        plane: (stages.plane % 4) as u8,
+        plane: stages.plane,
         value: stages.value,
     }
 }

@@ -1,7 +1,7 @@
 //! Cycles that need not wait for the dots before them: reads of memory and of input status 1, and
 //! writes to memory and to registers that none of the dots sees. The clock's timing need not wait
 //! either. Each takes only the dots that it must, and returns how many are left.
-ghost use Rattle.std.specs.Prelude.{◌≡◌, ◌≤◌, ◌==◌, ◌&&◌, ◌<◌, not, true, ℕ, Some, Ok, IfSome};
+ghost use Rattle.std.specs.Prelude.{◌≡◌, ◌≤◌, ◌==◌, ◌&&◌, ◌<◌, not, true, false, ℕ, None, Some, Ok, IfSome};
 ghost use Rattle.vga_card.specs.Clock.{IsRasterTiming};
 ghost use Rattle.vga_card.specs.Dots.{character_width, dots};
 ghost use Rattle.vga_card.specs.Port.{port_of};
@@ -10,6 +10,7 @@ ghost use Rattle.vga_crtc.specs.Raster.{IsWithinItsLine, dots_to_line_end};
 ghost use Rattle.vga_card.specs.Cycles.{out_cycle, inp_cycle, put_cycle, get_cycle};
 ghost use Rattle.vga_card.specs.WordCycles.{out_word_cycle, put_word_cycle, get_word_cycle};
 ghost use Rattle.vga_host.specs.Memory.Address.{window_offset};
+ghost use Rattle.vga_host.specs.Ports.{IsHostPort, IsIndexPort};
 ghost use Rattle.vga_host.specs.Memory.Write.{memory_after_put};
 ghost use Rattle.vga_card.specs.Owed.{DotsSeeSameMemory, IsChangeHiddenFromDots};
 
@@ -60,6 +61,7 @@ impl Card {
     /// True only if none of the next n dots sees a write to this address. They must be dots of the
     /// beam's line, must not begin a frame, and must fetch nothing near the offset that is written.
     /// In text the write must not reach the plane of glyphs.
+    #[inline(always)]
     fn is_write_unseen(&self, n: u32, address: u32) -> bool
         ensures { result ≡ true → (v : ℕ) → DotsSeeSameMemory n self.now
             (memory_after_put self.now.host (window_offset self.now.host address) v) }
@@ -116,9 +118,22 @@ impl Card {
         0
     }
 
-    /// Writes a byte to an address n dots on. It returns how many of these dots remain to be taken
-    /// after the write. They do not see it. It is inlined, because a put is the most frequent cycle.
+    /// Writes a byte to an address before the next n dots, if none of them sees it and the byte is
+    /// stored unchanged. It returns whether it did; if not, nothing changes. It serves speed alone:
+    /// a put is the most frequent cycle, and here it calls nothing.
     #[inline(always)]
+    pub fn put_before_dots(&mut self, n: u32, address: u32, v: u8) -> bool
+        ensures done { result ≡ true → (dots n self.new, Ok tt)
+            ≡ put_cycle (dots n self.old) address v }
+        ensures left { result ≡ false → self.new ≡ self.old }
+    {
+        dots_split();
+        unseen_writes_commute_with_dots();
+        (n == 0 || self.is_write_unseen(n, address)) && self.put_if_unchanged(address, v)
+    }
+
+    /// Writes a byte to an address n dots on. It returns how many of these dots remain to be taken
+    /// after the write. They do not see it.
     pub fn put_with_dots_owed(&mut self, n: u32, address: u32, v: u8) -> (u32, Result<(), Refusal>)
         ensures left { result.0 ≤ n }
         ensures put { (dots result.0 self.new, result.1) ≡ put_cycle (dots n self.old) address v }
@@ -266,6 +281,46 @@ impl Card {
         }
     }
 
+    /// Reads input status 1 where no dots are owed, if the port is its port. Else it is `None`, and
+    /// nothing changes.
+    #[inline(always)]
+    #[tactic(auto, unfolding(crate::specs::Cycles::inp_reached))]
+    pub fn inp_status(&mut self, port: u16) -> Option<u8>
+        ensures read { IfSome result (λ v. (self.new, Ok v) ≡ inp_cycle self.old port) }
+        ensures left { result ≡ None → self.new ≡ self.old }
+    {
+        if !self.is_input_status_1(port) {
+            return None;
+        }
+        self.attr.to_index();
+        Some(self.crtc.status())
+    }
+
+    /// Reads a byte from an address in read mode 0, however many dots are owed before. It is
+    /// `None`, and changes nothing, in read mode 1 and where the address is not decoded.
+    #[inline(always)]
+    pub fn get_from_plane_before_dots(&mut self, address: u32) -> Option<u8>
+        ensures read { IfSome result (λ v. (n : ℕ)
+            → (dots n self.new, Ok v) ≡ get_cycle (dots n self.old) address) }
+        ensures left { result ≡ None → self.new ≡ self.old }
+    {
+        memory_reads_commute_with_dots();
+        self.get_from_plane(address)
+    }
+
+    /// Reads a word from an address and the next in read mode 0, however many dots are owed before.
+    /// It is `None`, and changes nothing, in read mode 1 and where one of the addresses is not
+    /// decoded.
+    #[inline(always)]
+    pub fn get_word_from_planes_before_dots(&mut self, address: u32) -> Option<u16>
+        ensures read { IfSome result (λ v. (n : ℕ)
+            → (dots n self.new, Ok v) ≡ get_word_cycle (dots n self.old) address) }
+        ensures left { result ≡ None → self.new ≡ self.old }
+    {
+        memory_reads_commute_with_dots();
+        self.get_word_from_planes(address)
+    }
+
     /// Reads a byte from an address n dots on. All these dots remain to be taken after the read,
     /// because no dot sees the latches.
     pub fn get_with_dots_owed(&mut self, n: u32, address: u32) -> Result<u8, Refusal>
@@ -288,7 +343,9 @@ impl Card {
     /// a port reaches the index of the sequencer or the graphics controller, or a hidden register
     /// of theirs.
     fn is_out_hidden_from_dots(&self, port: u16) -> bool
-        ensures { result ≡ true → (v : ℕ) → IsChangeHiddenFromDots self.now (out_cycle self.now port v).0 }
+        ensures hidden { result ≡ true → (v : ℕ)
+            → IsChangeHiddenFromDots self.now (out_cycle self.now port v).0 }
+        ensures host { result ≡ true → IsHostPort port }
     {
         match port {
             SEQUENCER_INDEX | GRAPHICS_INDEX => true,
@@ -301,7 +358,9 @@ impl Card {
     /// Whether a write of this word to a port is known to be hidden from dots. Such a word sets the
     /// index of the sequencer or the graphics controller, and a hidden register of theirs.
     fn is_out_word_hidden_from_dots(&self, port: u16, v: u16) -> bool
-        ensures { result ≡ true → IsChangeHiddenFromDots self.now (out_word_cycle self.now port v).0 }
+        ensures hidden { result ≡ true
+            → IsChangeHiddenFromDots self.now (out_word_cycle self.now port v).0 }
+        ensures index { result ≡ true → IsIndexPort port }
     {
         let index = (v % 256) as u8;
         match port {
@@ -309,6 +368,58 @@ impl Card {
             GRAPHICS_INDEX => is_graphics_register_hidden_from_dots(index & 0x0F),
             _ => false,
         }
+    }
+
+    /// Writes a byte to a port of the sequencer or the graphics controller, if it is not refused. It
+    /// returns whether it did; if not, nothing changes.
+    #[inline(always)]
+    #[tactic(auto, unfolding(crate::specs::Cycles::out_reached, crate::specs::Port::port_of))]
+    fn out_to_host(&mut self, port: u16, v: u8) -> bool
+        requires { IsHostPort port }
+        ensures done { result ≡ true → (self.new, Ok tt) ≡ out_cycle self.old port v }
+        ensures left { result ≡ false → self.new ≡ self.old }
+    {
+        self.host.out(port, v).is_ok()
+    }
+
+    /// Writes a byte to a port, however many dots are owed before, if no dot sees the write and it
+    /// is not refused. It returns whether it did; if not, nothing changes.
+    #[inline(always)]
+    pub fn out_before_dots(&mut self, port: u16, v: u8) -> bool
+        ensures done { result ≡ true → (n : ℕ)
+            → (dots n self.new, Ok tt) ≡ out_cycle (dots n self.old) port v }
+        ensures left { result ≡ false → self.new ≡ self.old }
+    {
+        hidden_writes_commute_with_dots();
+        self.is_out_hidden_from_dots(port) && self.out_to_host(port, v)
+    }
+
+    /// Writes an index of the sequencer or the graphics controller, and the register that it selects,
+    /// if this is not refused. It returns whether it did; if not, nothing changes.
+    #[inline(always)]
+    fn out_word_to_host(&mut self, port: u16, v: u16) -> bool
+        requires { IsIndexPort port }
+        ensures done { result ≡ true → (self.new, Ok tt) ≡ out_word_cycle self.old port v }
+        ensures left { result ≡ false → self.new ≡ self.old }
+    {
+        let (index, data) = bytes_of(v);
+        if port == SEQUENCER_INDEX {
+            self.out_sequencer(index, data).is_ok()
+        } else {
+            self.out_graphics(index, data).is_ok()
+        }
+    }
+
+    /// Writes a word to a port and the next port, however many dots are owed before, if no dot sees
+    /// the writes and neither is refused. It returns whether it did; if not, nothing changes.
+    #[inline(always)]
+    pub fn out_word_before_dots(&mut self, port: u16, v: u16) -> bool
+        ensures done { result ≡ true → (n : ℕ)
+            → (dots n self.new, Ok tt) ≡ out_word_cycle (dots n self.old) port v }
+        ensures left { result ≡ false → self.new ≡ self.old }
+    {
+        hidden_writes_commute_with_dots();
+        self.is_out_word_hidden_from_dots(port, v) && self.out_word_to_host(port, v)
     }
 
     /// Writes a byte to a port n dots on. It returns how many of these dots remain to be taken

@@ -1,6 +1,7 @@
 //! Cycles of a word: its low byte at a port or address, and then its high byte at the next one. A
 //! refused cycle moves neither byte.
 ghost use Rattle.std.specs.Prelude.{◌≡◌, ◌+◌, ◌*◌, ◌/◌, ◌%◌, ◌<◌, ◌&&◌, IsOk};
+ghost use Rattle.std.specs.Prelude.{true, false, None, Ok, IfSome};
 ghost use Rattle.vga_host.specs.Memory.Address.{is_decoded};
 ghost use Rattle.vga_card.specs.Cycles.{out_cycle, inp_cycle};
 ghost use Rattle.vga_card.specs.Port.{crtc_port};
@@ -43,8 +44,9 @@ impl Card {
     }
 
     /// Writes the sequencer's index, and then the register that it selects.
+    #[inline(always)]
     #[tactic(auto, unfolding(crate::specs::Cycles::out_reached, crate::specs::Port::port_of))]
-    fn out_sequencer(&mut self, index: u8, v: u8) -> Result<(), Refusal>
+    pub(super) fn out_sequencer(&mut self, index: u8, v: u8) -> Result<(), Refusal>
         ensures { (self.new, result) ≡ out_low_and_high_byte self.old 0x3C4 index v }
     {
         if self.host.refuses_data(SEQUENCER_INDEX, index, v) {
@@ -55,8 +57,9 @@ impl Card {
     }
 
     /// Writes the graphics controller's index, and then the register that it selects.
+    #[inline(always)]
     #[tactic(auto, unfolding(crate::specs::Cycles::out_reached, crate::specs::Port::port_of))]
-    fn out_graphics(&mut self, index: u8, v: u8) -> Result<(), Refusal>
+    pub(super) fn out_graphics(&mut self, index: u8, v: u8) -> Result<(), Refusal>
         ensures { (self.new, result) ≡ out_low_and_high_byte self.old 0x3CE index v }
     {
         if self.host.refuses_data(GRAPHICS_INDEX, index, v) {
@@ -189,6 +192,36 @@ impl Card {
         let (low, high) = bytes_of(v);
         self.put(address, low)?;
         self.put(address + 1, high)
+    }
+
+    /// Writes a word to an address and the next, if both are decoded and the writes are known to
+    /// store their bytes unchanged. It returns whether it did; if not, nothing changes.
+    #[inline(always)]
+    pub fn put_word_if_unchanged(&mut self, address: u32, v: u16) -> bool
+        ensures done { result ≡ true → (self.new, Ok tt) ≡ put_word_cycle self.old address v }
+        ensures left { result ≡ false → self.new ≡ self.old }
+    {
+        if address == u32::MAX {
+            return false;
+        }
+        let (low, high) = bytes_of(v);
+        self.host
+            .put_word_if_unchanged(address, low, high, self.misc)
+    }
+
+    /// Reads a word from an address and the next in read mode 0. Afterwards the latches are those of
+    /// the second byte. It is `None`, and changes nothing, in read mode 1 and where one of the
+    /// addresses is not decoded.
+    #[inline(always)]
+    pub(super) fn get_word_from_planes(&mut self, address: u32) -> Option<u16>
+        ensures read { IfSome result (λ v. (self.new, Ok v) ≡ get_word_cycle self.old address) }
+        ensures left { result ≡ None → self.new ≡ self.old }
+    {
+        if address == u32::MAX {
+            return None;
+        }
+        let (low, high) = self.host.get_word_from_planes(address, self.misc)?;
+        Some(word_of(low, high))
     }
 
     /// Reads a word from an address and the next. Afterwards the latches are those of the second

@@ -10,6 +10,7 @@ from __future__ import annotations
 
 import re
 import tempfile
+from collections import Counter
 from pathlib import Path
 from typing import Iterator, NamedTuple
 
@@ -90,6 +91,8 @@ WORDS = frozenset(
 NAMES = re.compile(r"w2c_(?:[iljpgfBL]\d+|Bfunc|page_take|page_give|zak_\w+)")
 WORD = re.compile(r"\b[A-Za-z_]\w*")
 # Calls keep their names, behind this word.
+# The calls of a single cycle. Each begins with a quick way, which calls nothing.
+CYCLES = ("put", "put_word", "get", "get_word", "out", "out_word", "in")
 SHOWN = re.compile(r"\bw2c_((?:zak|page)_\w+)")
 
 
@@ -215,6 +218,20 @@ class Writer:
         return _short("\n".join((f"\n{head} {{", *lines, "}\n")))
 
 
+def _apart(bodies: dict[str, str]) -> frozenset[str]:
+    """The functions that the calls of a single cycle alone call, and once: what is rare in them.
+
+    A compiler of C would inline such a function, and save registers for it at each call.
+    """
+    calls = Counter(name for body in bodies.values() for name in CALLED.findall(body))
+    return frozenset(
+        name
+        for caller in CYCLES
+        for name in CALLED.findall(bodies[f"w2c_zak_{caller}"])
+        if calls[name] == 1
+    )
+
+
 def _short(text: str) -> str:
     return SHOWN.sub(r"module_\1", text).replace("w2c_", "")
 
@@ -222,9 +239,12 @@ def _short(text: str) -> str:
 def _written(text: str) -> Iterator[str]:
     """The functions as C with names of its own, each declared before the first."""
     functions = _functions(text)
-    writer = Writer({function.name: _rewritten(function.body) for function in functions})
+    bodies = {function.name: _rewritten(function.body) for function in functions}
+    writer = Writer(bodies)
+    apart = _apart(bodies)
     for answer, name, parameters in PROTOTYPE.findall(text):
-        yield _short(f"static {answer} {name}(module *{parameters});\n")
+        word = "APART " if name in apart else ""
+        yield _short(f"{word}static {answer} {name}(module *{parameters});\n")
     for function in functions:
         yield writer.written(function)
 

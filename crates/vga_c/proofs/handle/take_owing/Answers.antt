@@ -1,16 +1,7 @@
-use Rattle.std.proofs.Common.{◌∙◌, ap}
-use Rattle.vga_script.specs.declared.step.Step.TheVariants.{Advance}
-use Rattle.vga_run.specs.declared.machine.Machine.{Machine}
-use Rattle.vga_run.specs.Step.{after_step}
-use Rattle.vga_c.specs.Handle.{HandleState, machine_after_owed_dots}
+-- Where more dots are owed than one advance takes, they are drawn first.
+use Rattle.std.proofs.Common.{◌∙◌}
 use Rattle.vga_c.proofs.HandleLemmas.{none_owed}
 use Rattle.vga_c.proofs.handle.take_owing.Goals as goal
 
 pub returns-then-card-gt-MOST_DOTS-clause-machine : goal.returns-then-card-gt-MOST_DOTS-clause-machine
 returns-then-card-gt-MOST_DOTS-clause-machine c = none_owed c.dots_split.ensures.none c.take.result.value ∙ c.take.ensures.machine
-
-pub returns-clause-machine : goal.returns-clause-machine
-unfolding machine_after_owed_dots
-returns-clause-machine c =
-    ap (λ (m : Machine). after_step m (Advance c.card.inside.owed)) c.take_machine_without_owed_dots.ensures.machine
-    ∙ ap (λ (h : HandleState). after_step c.args.card.now.kept.machine (Advance h.owed)) c.card.view_is

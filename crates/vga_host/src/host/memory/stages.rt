@@ -46,7 +46,7 @@ pub struct ReadStages {
     /// Whether the read compares colours, as read mode 1 does. Then `plane` doesn't matter.
     pub is_compare: bool,
     /// The plane whose byte read mode 0 returns.
-    pub plane: usize,
+    pub plane: u8,
     /// The byte that the read returns.
     pub value: u8,
 }
@@ -90,7 +90,7 @@ impl Host {
             offset,
             loaded,
             is_compare: self.is_read_compare(),
-            plane: self.picked_plane(in_window),
+            plane: self.picked_plane(in_window) as u8,
             value: self.read_byte(in_window, loaded),
         })
     }

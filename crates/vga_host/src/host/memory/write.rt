@@ -1,15 +1,17 @@
 //! A write of a byte to display memory.
 ghost use Rattle.std.specs.Prelude.{◌≡◌, ◌<◌, ◌↔◌, ℕ, if◌then◌else◌, IsTrue, OnOk, IfErr, IsOk};
-ghost use Rattle.std.specs.Prelude.{true};
+ghost use Rattle.std.specs.Prelude.{true, false, ◌+◌};
 ghost use Rattle.std.specs.Int.{bit_at};
 ghost use Rattle.vga_bits.specs.Four.{four_by_plane};
-ghost use Rattle.vga_host.specs.Memory.Address.{is_decoded};
+ghost use Rattle.vga_host.specs.Memory.Access.{IsAccess};
+ghost use Rattle.vga_host.specs.Memory.Address.{is_decoded, window_offset};
 ghost use Rattle.vga_host.specs.Graphics.{bit_mask, set_reset, is_set_reset_enabled, write_mode};
 ghost use Rattle.vga_bits.specs.Words.{plane_bit_in_word};
 ghost use Rattle.vga_host.specs.Memory.Write.{rotated_write_bit, data_bit_of_write, mask_bit};
 ghost use Rattle.vga_host.specs.Memory.Write.{combined_bit};
 ghost use Rattle.vga_host.specs.Memory.Write.{written_bit, written_byte, after_put, StoresByteUnchanged};
 
+use super::access::MemoryAccess;
 use crate::bytes::{combined, rotated_right};
 use crate::host::Host;
 use vga_bits::Refusal;
@@ -95,6 +97,15 @@ impl Host {
         }
     }
 
+    /// The bytes that a write stores in the planes that it reaches, where it stores its byte
+    /// unchanged.
+    fn unchanged_bytes(&self, v: u8) -> Latch
+        requires { StoresByteUnchanged self.now }
+        ensures { result ≡ four_by_plane (λ p. written_byte self.now v p) }
+    {
+        Latch::from_word(byte_in_all_planes(v))
+    }
+
     /// The bytes that a write stores in the planes that it reaches. `stores_byte` serves speed
     /// alone: it may always be false.
     pub(super) fn written_bytes_by_shortcut(&self, stores_byte: bool, v: u8) -> Latch
@@ -102,7 +113,7 @@ impl Host {
         ensures { result ≡ four_by_plane (λ p. written_byte self.now v p) }
     {
         if stores_byte {
-            return Latch::from_word(byte_in_all_planes(v));
+            return self.unchanged_bytes(v);
         }
         let word = self.written_word(v);
         Latch::from_word(word)
@@ -125,6 +136,22 @@ impl Host {
         self.written_bytes_by_shortcut(self.access().stores_byte, v)
     }
 
+    /// Stores the bytes of a write in the planes that it reaches at an offset in the window. What
+    /// the registers say of every cycle stays the same.
+    #[inline(always)]
+    fn store_in_window(&mut self, access: MemoryAccess, in_window: u16, bytes: Latch)
+        requires { IsAccess access self.old }
+        ensures put { (misc address v : ℕ) → IsTrue (is_decoded self.old misc address)
+            → in_window ≡ window_offset self.old address
+            → bytes ≡ four_by_plane (λ p. written_byte self.old v p)
+            → self.new ≡ after_put self.old address v }
+        ensures access { IsAccess access self.new }
+    {
+        let set = access.reached(in_window);
+        let offset = access.offset(in_window);
+        self.planes.store(offset, bytes, set);
+    }
+
     /// Writes a byte to an address of display memory. If the address is not decoded, the write is
     /// refused with `NotDecoded` and changes nothing. `misc` is the miscellaneous output register.
     ///
@@ -141,9 +168,56 @@ impl Host {
             return Err(Refusal::NotDecoded);
         };
         let bytes = self.written_bytes_by_shortcut(access.stores_byte, v);
-        let set = access.reached(in_window);
-        let offset = access.offset(in_window);
-        self.planes.store(offset, bytes, set);
+        self.store_in_window(access, in_window, bytes);
         Ok(())
+    }
+
+    /// Writes a byte to an address of display memory, if the address is decoded and the write is
+    /// known to store its byte unchanged. It returns whether it did; if not, nothing changes. It
+    /// serves speed alone: it is inlined, and calls nothing.
+    #[inline(always)]
+    pub fn put_if_unchanged(&mut self, address: u32, v: u8, misc: u8) -> bool
+        ensures done { result ≡ true → IsTrue (is_decoded self.old misc address)
+            × (self.new ≡ after_put self.old address v) }
+        ensures left { result ≡ false → self.new ≡ self.old }
+    {
+        let access = self.access();
+        if !access.stores_byte {
+            return false;
+        }
+        let Some(in_window) = access.in_window(address, misc) else {
+            return false;
+        };
+        let unchanged = self.unchanged_bytes(v);
+        self.store_in_window(access, in_window, unchanged);
+        true
+    }
+
+    /// Writes two bytes to an address of display memory and the next one, if both are decoded and
+    /// the writes are known to store their bytes unchanged. It returns whether it did; if not,
+    /// nothing changes. It serves speed alone: it is inlined, and calls nothing.
+    #[inline(always)]
+    pub fn put_word_if_unchanged(&mut self, address: u32, low: u8, high: u8, misc: u8) -> bool
+        requires { address < 4294967295 }
+        ensures done { result ≡ true → IsTrue (is_decoded self.old misc address)
+            × IsTrue (is_decoded self.old misc (address + 1))
+            × (self.new ≡ after_put (after_put self.old address low) (address + 1) high) }
+        ensures left { result ≡ false → self.new ≡ self.old }
+    {
+        let access = self.access();
+        if !access.stores_byte {
+            return false;
+        }
+        let Some(first) = access.in_window(address, misc) else {
+            return false;
+        };
+        let Some(second) = access.in_window(address + 1, misc) else {
+            return false;
+        };
+        let low = self.unchanged_bytes(low);
+        self.store_in_window(access, first, low);
+        let high = self.unchanged_bytes(high);
+        self.store_in_window(access, second, high);
+        true
     }
 }

@@ -105,11 +105,12 @@ static size_t told_size(module *self, u32 place)
 }
 
 /* A trap ends a card: it is closed, and its memory is free. */
-static void close_broken(zak_card *card)
+APART static zak_status close_broken(zak_card *card)
 {
     free_module(card->machine);
     card->is_open = false;
     card->machine = NULL;
+    return ZAK_BROKEN;
 }
 
 /* Begins a call on a card, and ends it. */
@@ -120,7 +121,7 @@ static void close_broken(zak_card *card)
 #define END(card, outcome)                                                                         \
     zak_status status = (outcome);                                                                 \
     if (NEVER(status == ZAK_BROKEN))                                                               \
-        close_broken(card);                                                                        \
+        return close_broken(card);                                                                 \
     return status
 /* The same, where the call gives a number or a struct if it answers ZAK_OK. */
 #define END_WITH(card, outcome, given)                                                             \
@@ -128,7 +129,7 @@ static void close_broken(zak_card *card)
     if (status == ZAK_OK)                                                                          \
         given;                                                                                     \
     else if (NEVER(status == ZAK_BROKEN))                                                          \
-        close_broken(card);                                                                        \
+        return close_broken(card);                                                                 \
     return status
 
 /* No memory is needed for this. */

@@ -35,9 +35,12 @@ typedef struct module {
 #if defined(__GNUC__)
 #define NEVER(condition) __builtin_expect(!!(condition), 0)
 #define IS_KNOWN(number) __builtin_constant_p(number)
+/* What is called rarely stands apart, so that no caller saves a register for it at each call. */
+#define APART __attribute__((noinline))
 #else
 #define NEVER(condition) (condition)
 #define IS_KNOWN(number) 0
+#define APART
 #endif
 
 /* With ZAKLIMOT_CHECKED the program ends at an access beside the memory, for tests. */

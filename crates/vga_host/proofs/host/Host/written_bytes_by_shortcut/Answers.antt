@@ -1,17 +1,8 @@
--- Four bytes are known by the bits of their word; a plain write leaves its byte in each plane.
-use Rattle.std.proofs.Common.{sym, ◌∙◌}
+-- Four bytes are known by the bits of their word.
+use Rattle.std.proofs.Common.{◌∙◌}
 use Rattle.vga_bits.proofs.WordLemmas.{bytes_from_bits}
 use Rattle.vga_host.specs.Memory.Write.{written_bit}
-use Rattle.vga_host.proofs.StoresByteLemmas.{plain_bit}
 use Rattle.vga_host.proofs.host.Host.written_bytes_by_shortcut.Goals as goal
 
-pub returns-then-stores_byte : goal.returns-then-stores_byte
-returns-then-stores_byte c =
-    let h = c.args.self.now in
-    let v = c.args.v in
-    c.from_word.ensures
-    ∙ bytes_from_bits c.byte_in_all_planes.result (λ p i. written_bit h v p i) (λ p i lp li. c.byte_in_all_planes.ensures p i lp li
-    ∙ sym (plain_bit h v p i (c.requires c.if-stores_byte.true) lp li))
-
 pub returns : goal.returns
-returns c = c.from_word-2.ensures ∙ bytes_from_bits c.written_word-word.result (λ p i. written_bit c.args.self.now c.args.v p i) c.written_word-word.ensures
+returns c = c.from_word.ensures ∙ bytes_from_bits c.written_word-word.result (λ p i. written_bit c.args.self.now c.args.v p i) c.written_word-word.ensures
