@@ -1,13 +1,13 @@
 // The page begins: it opens the module that stands in it, and shows a script. `#check` runs all
 // examples instead. In a worker, which has no document, the same script compares answers with
 // those of zak_run, or reads a long text.
-import { Adapter } from "./module/adapter.js";
+import { Adapter } from "./run/adapter.js";
 import { Trouble } from "./common/trouble.js";
 import { View } from "./view/view.js";
 import { byId, element } from "./common/dom.js";
 import { bytesOfBase64 } from "./common/bytes.js";
 import { checkedExamples } from "./run/checking.js";
-import { examplesOf, unpackedJson, unzipped } from "./module/packed.js";
+import { examplesOf, unpackedJson, unzipped } from "./common/packed.js";
 import { comparedToSend } from "./run/comparing.js";
 import { judgedToSend } from "./run/judging.js";
 
@@ -38,7 +38,7 @@ async function begin() {
   for (const part of ["tutorial", "sections"]) data[part] = await unpackedJson(data[part]);
   // The scripts in the list: those of the tutorial have a title too.
   data.scripts = [...data.tutorial, ...data.examples];
-  const adapter = await Adapter.opened(module);
+  const adapter = await Adapter.of(module);
   if (location.hash === "#check") return showCheck(adapter, data);
   return new View(adapter, module, data);
 }

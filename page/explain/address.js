@@ -10,11 +10,11 @@ const INDEX = 0x3c4, MAP_MASK = 2, ALL = 15;
 /** The lowest address by which a write reaches an offset of a plane in a state; null where none does. */
 export function addressOf(state, plane, offset) {
   const { scratch } = state;
-  scratch.write(INDEX, MAP_MASK);
-  scratch.write(INDEX + 1, ALL);
+  scratch.tryOut(INDEX, MAP_MASK);
+  scratch.tryOut(INDEX + 1, ALL);
   for (const begin of BEGINS) {
     const reaches = address => {
-      const stages = scratch.writeStages(address, 0);
+      const stages = scratch.tryExplainPut(address, 0);
       return stages !== null && stages.offset === offset && (stages.planes >> plane & 1) === 1;
     };
     const found = NEAR.find(more => reaches(begin + offset + more));

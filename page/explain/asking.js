@@ -1,7 +1,7 @@
 // The cards by which the page is asked about a dot, a byte, a register, a colour: what it is, the
 // step that draws it, the last step that changed it, and whether to watch it.
 import { PopCard } from "../common/popcard.js";
-import { GROUPS } from "../module/registers.js";
+import { GROUPS } from "../script/registers.js";
 import { Trouble } from "../common/trouble.js";
 import { cssColour, element, selectOf } from "../common/dom.js";
 import { DotSearch, dotOfSeen } from "./dotsearch.js";

@@ -23,7 +23,7 @@ const READS_OUTSIDE = Uint8Array.of(0x56, 0x47, 0x41, 0x53, 1, KIND.get, 0, 0, 0
 
 /** The first and the last address of the window of memory, as a card tells them. */
 function windowOf(card) {
-  const [, , first, last] = card.whyRefused(READS_OUTSIDE).numbers;
+  const [, , first, last] = card.explainStep(READS_OUTSIDE).numbers;
   return { first, last };
 }
 
@@ -108,14 +108,14 @@ function readSentence({ isCompare, plane, value }, registers) {
 
 /** Of each plane that a read compares, where it has its colour: the read with this plane compared alone. */
 function equalPlanes(card, address, { gfx, gfxIndex }) {
-  card.write(GRAPHICS, DONT_CARE);
+  card.tryOut(GRAPHICS, DONT_CARE);
   const found = PLANES.map(plane => {
     if (!(gfx[DONT_CARE] >> plane & 1)) return null;
-    card.write(GRAPHICS + 1, 1 << plane);
-    return card.readStages(address).value;
+    card.tryOut(GRAPHICS + 1, 1 << plane);
+    return card.tryExplainGet(address).value;
   });
-  card.write(GRAPHICS + 1, gfx[DONT_CARE]);
-  card.write(GRAPHICS, gfxIndex);
+  card.tryOut(GRAPHICS + 1, gfx[DONT_CARE]);
+  card.tryOut(GRAPHICS, gfxIndex);
   return found;
 }
 
@@ -135,7 +135,7 @@ function readTable(address, stages, from) {
 
 /** The cycle of a byte on a card as it is, as a table; null where no memory answers. */
 function tableOf(card, { isWrite, address, value }) {
-  const stages = isWrite ? card.writeStages(address, value) : card.readStages(address);
+  const stages = isWrite ? card.tryExplainPut(address, value) : card.tryExplainGet(address);
   if (!stages) return null;
   const registers = card.registers(), from = { registers, latches: card.latches(), window: windowOf(card) };
   if (isWrite) return writeTable(address, value, stages, from);
@@ -151,8 +151,8 @@ export function tablesOfStep(state, { name, place: address, value }) {
   const card = state.scratch, isWrite = name.startsWith("put"), isWord = name.endsWith("w");
   const first = tableOf(card, { isWrite, address, value: value & 255 });
   if (!isWord || !first || address === LAST_ADDRESS) return first && !isWord ? [first] : [];
-  if (isWrite) card.put(address, value & 255);
-  else card.get(address);
+  if (isWrite) card.tryPut(address, value & 255);
+  else card.tryGet(address);
   const second = tableOf(card, { isWrite, address: address + 1, value: value >> 8 });
   return second ? [first, second] : [];
 }

@@ -1,8 +1,8 @@
 // What the page tells of a dot, in words: on the line below the pointer, and as rows of its card.
 // Where the dot comes from, zak_explain_dot tells.
-import { LETTERS_437 } from "../module/codepage.js";
+import { LETTERS_437 } from "../common/codepage.js";
 import { addressOf } from "./address.js";
-import { characterWidth, rowShape } from "../module/state.js";
+import { characterWidth, rowShape } from "../run/state.js";
 import { grouped, hex } from "../common/bytes.js";
 
 const PLANES = [0, 1, 2, 3];

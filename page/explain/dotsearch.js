@@ -4,11 +4,12 @@
 // colour that the drawn dot comes from, also while the picture shows another part of memory.
 import { KIND } from "../script/steplist.js";
 import { Search } from "../run/points.js";
-import { State } from "../module/state.js";
+import { State } from "../run/state.js";
 import { dotAhead, sourceAt, steady } from "./way.js";
+import { placeBeam } from "./dotfields.js";
 import { colourBy, kindOf } from "./dotrows.js";
 import { hex } from "../common/bytes.js";
-import { sizeOfStruct } from "../module/structs.js";
+import { sizeOfStruct } from "../../javascript/zaklimot.js";
 
 /** The steps that may change where a dot comes from; the others read, or let dots pass. */
 const WRITES = [KIND.out, KIND.outw, KIND.put, KIND.putw, KIND.int];
@@ -27,7 +28,7 @@ export function partsOfDot(source) {
     "colour by": TOLD_BY[by] };
   if (kind === "text") {
     Object.assign(parts, { character: hex(source.character, 2), attribute: hex(source.attribute, 2),
-      "glyph's offset": hex(source.glyphAddress, 4), "glyph's bit": String(source.isGlyphDot),
+      "glyph's offset": hex(source.glyphAddress, 4), "glyph's bit": source.isGlyphDot ? "1" : "0",
       "dot is": source.isForeground ? "ink" : "ground" });
   }
   // Bits of planes that the palette does not see are no part of the dot.
@@ -74,7 +75,7 @@ class DotWatch {
 
   /** Asks before a step. */
   start(scout) {
-    scout.card.placeBeam(steady(this.beam), scout.beam);
+    placeBeam(scout.adapter, steady(this.beam), scout.beam);
     this.#isOther(scout);
     this.old = this.#parts(scout);
   }
@@ -85,7 +86,7 @@ class DotWatch {
 
   /** Asks the card; whether it tells something else than before. */
   #isOther({ adapter, card, room, beam }) {
-    adapter.calls.zak_explain_dot(card.at, beam, room);
+    adapter.calls.zak_explain_dot(card.address, beam, room);
     const { bytes } = adapter, told = this.#told;
     let isOther = false;
     for (let at = 0; at < SOURCE_SIZE; at++) {

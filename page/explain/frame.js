@@ -1,7 +1,8 @@
 // What a frame shows, line by line, as the adapter's own card goes through it: where each line
 // begins, which bytes of the planes it shows, and the rows of text.
-import { PLANE_LENGTH } from "../module/adapter.js";
-import { characterWidth } from "../module/state.js";
+import { PLANE_SIZE } from "../../javascript/zaklimot.js";
+import { characterWidth } from "../run/state.js";
+import { dotFields } from "./dotfields.js";
 import { isDisplayed } from "./way.js";
 
 /** The registers by which the last frame was looked at, and what was seen. */
@@ -42,7 +43,7 @@ const firstDots = count => Array.from({ length: count }, (_, character) => [char
 
 /** Of each byte of a plane, whether a frame with a state's registers shows it. */
 export function shownBytes(state) {
-  const shown = new Uint8Array(PLANE_LENGTH), seen = new Set(), beams = displayedBeams(state);
+  const shown = new Uint8Array(PLANE_SIZE), seen = new Set(), beams = displayedBeams(state);
   const { card } = state, count = charactersOf(state), last = characterWidth(state.registers) - 1;
   // A picture that is panned shows a part of one character more.
   const dots = [...firstDots(count), [count - 1, last]];
@@ -50,7 +51,7 @@ export function shownBytes(state) {
     const key = 2 * beam.base + beam.split;
     if (seen.has(key)) continue;
     seen.add(key);
-    for (const [address] of card.dotFields({ ...beam, line: 1 }, dots, ["address"])) shown[address] = 1;
+    for (const [address] of dotFields(card, { ...beam, line: 1 }, dots, ["address"])) shown[address] = 1;
   }
   return shown;
 }
@@ -75,7 +76,7 @@ export function textRows(state) {
 const CELL = ["counter", "address", "character", "attribute", "glyphAddress"];
 
 function cellsIn(state, beam, dots) {
-  return state.card.dotFields({ ...beam, line: 1 }, dots, CELL)
+  return dotFields(state.card, { ...beam, line: 1 }, dots, CELL)
     .map(([counter, address, character, attribute, glyphAddress]) =>
       ({ counter, address, character, attribute, glyph: glyphAddress - beam.scan }));
 }

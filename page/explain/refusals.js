@@ -28,6 +28,6 @@ const AH = 7;
  * title } }; null if it is not.
  */
 export function whyRefused({ outline, pieces }, step, before) {
-  const script = pieces.bytes(outline.entryOf(step), 1, 1), told = before.card.whyRefused(script);
+  const script = pieces.bytes(outline.entryOf(step), 1, 1), told = before.card.explainStep(script);
   return told && { text: told.sentence, link: linkOf(told, script[AH]) };
 }

@@ -2,7 +2,7 @@
 // field of the BIOS data. Each is spelled in a few words, which stand in the document beside what
 // shows it ("byte 0 07CA"), and which watches keep.
 import { DotSearch } from "./dotsearch.js";
-import { GROUPS, fieldMask, fieldValue } from "../module/registers.js";
+import { GROUPS, fieldMask, fieldValue } from "../script/registers.js";
 import { Search } from "../run/points.js";
 import { dotAhead } from "./way.js";
 import { hex } from "../common/bytes.js";

@@ -1,6 +1,7 @@
 // The beam's way from a state to dots of the picture. Where the beam is at the first dot of a line,
 // the adapter's own card tells, which goes there; its clock tells how many dots that takes.
-import { characterWidth } from "../module/state.js";
+import { characterWidth } from "../run/state.js";
+import { dotFields } from "./dotfields.js";
 
 /** Where the beam is so many dots later in a line: { character, dot }. */
 function alongLine({ character, dot }, dots, width) {
@@ -69,7 +70,7 @@ export function dotAhead(state, place) {
 
 /** Whether the picture has the dot at a place of the beam, by the registers as they are. */
 export function isDisplayed(card, { line, character, dot }) {
-  return card.dotFields({ line }, [[character, dot]], ["isDisplay"])[0]?.[0] === 1;
+  return dotFields(card, { line }, [[character, dot]], ["isDisplay"])[0]?.[0] === 1;
 }
 
 /**
@@ -77,7 +78,10 @@ export function isDisplayed(card, { line, character, dot }) {
  * first dot the card would take the start address as it is now. A line below it takes none.
  */
 export function sourceAt(card, beam) {
-  return card.dotSource(steady(beam));
+  const source = card.tryExplainDot(steady(beam));
+  if (!source) return null;
+  const { colour: { red, green, blue } } = source;
+  return { ...source, colour: [red, green, blue] };
 }
 
 /** A beam by which a card tells the dot with the start of the frame as it was taken. */

@@ -1,7 +1,7 @@
 // The time between the steps of a trace (docs/TRACES.md), as dots of the clock that the steps
 // before have chosen. tools/zaklimot_tools/trace/converting.py does the same for `--time`;
 // page/tests/traces.mjs holds both to the same text.
-import { frameSpeed } from "../module/state.js";
+import { frameSpeed } from "../run/state.js";
 
 const SEQUENCER_INDEX = 0x3c4, MISC_OUTPUT = 0x3c2;
 // The port of the CRT controller's index, by the lowest bit of miscellaneous output.

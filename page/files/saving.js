@@ -1,9 +1,9 @@
 // What is saved: text, bytes, report, the picture, and all pictures as one that moves.
-import { Card } from "../module/adapter.js";
+import { Card } from "../../javascript/zaklimot.js";
 import { Trouble } from "../common/trouble.js";
 import { apngOf, packedRows, padded, pngOf } from "../picture/png.js";
 import { element } from "../common/dom.js";
-import { frameSpeed } from "../module/state.js";
+import { frameSpeed } from "../run/state.js";
 import { readReport } from "../run/report.js";
 
 // Of a clock that isn't known, 70 frames a second.
@@ -22,7 +22,7 @@ export function reportOf(session) {
   if (session.reported > MOST_SAVED) {
     throw new Trouble("The report has more than 256 MiB: run the script by `vga go`.");
   }
-  return session.adapter.run(session.script, session.fonts, session.reported).report;
+  return session.adapter.run(session.script, { fonts: session.fonts, room: session.reported });
 }
 
 /**

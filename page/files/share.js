@@ -1,5 +1,5 @@
 // A script in the fragment of a link, and what a file that is dropped is.
-import { FONTS_SIZE } from "../module/adapter.js";
+import { FONTS_SIZE, STATUS } from "../../javascript/zaklimot.js";
 import { MOST_BYTES } from "../script/grammar.js";
 import { Trouble } from "../common/trouble.js";
 import { base64OfBytes, bytesOfBase64, counted, grouped, hex, throughStream }
@@ -141,13 +141,13 @@ async function gunzipped(bytes) {
 
 /** The text of a script of bytes. */
 export function printedText(bytes, adapter) {
-  const { status, place, text } = adapter.printed(bytes.length > MOST_BYTES
-    ? bytes.subarray(0, MOST_BYTES + 1) : bytes);
-  if (status) {
-    const reason = reasonOfBytes(bytes, status, place);
+  try {
+    return adapter.print(bytes.length > MOST_BYTES ? bytes.subarray(0, MOST_BYTES + 1) : bytes);
+  } catch (error) {
+    if (!error.status || error.status === STATUS.OUT_OF_MEMORY) throw error;
+    const reason = reasonOfBytes(bytes, error.status, error.place ?? 0);
     throw new Trouble(`This script of bytes is not run: ${reason}.`);
   }
-  return new TextDecoder().decode(text);
 }
 
 function noneOf(bytes) {

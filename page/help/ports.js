@@ -1,6 +1,6 @@
 // The ports by name, as docs/REGISTERS.md has them under "Ports"; page/tests/help.mjs holds them to
 // it. And which register a cycle of a port writes, where the lines before tell it.
-import { GROUPS } from "../module/registers.js";
+import { GROUPS } from "../script/registers.js";
 
 const CRTC_BASES = [0x3b4, 0x3d4], FLIP_FLOP = 0x3c0, STATUS = [0x3ba, 0x3da];
 /** The steps of a script before a line are looked at as far as so many lines. */

@@ -1,7 +1,7 @@
 // What a word of a script means, for the help beside it: a title, sentences, and a section to read.
 import { PORTS, groupAt, registerOf } from "./ports.js";
 import { SERVICE_ANCHORS } from "./services.js";
-import { fieldValue } from "../module/registers.js";
+import { fieldValue } from "../script/registers.js";
 import { hex } from "../common/bytes.js";
 import { stepOf } from "./steps.js";
 import { wordsIn } from "../script/words.js";

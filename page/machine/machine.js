@@ -2,7 +2,8 @@
 //
 // The processor's module calls the adapter's exports itself; JavaScript appears at the end of a frame and at an
 // interrupt 10. The same snapshot and the same keys give the same cycles.
-import { CARD_SIZE, HIGHEST, MOST_STATE, WIDEST } from "../module/adapter.js";
+import { Adapter } from "../run/adapter.js";
+import { CARD_SIZE, HIGHEST, MOST_STATE, MOST_TABLE, ONCE, OPAQUE, WIDEST } from "../../javascript/zaklimot.js";
 import { Snapshot } from "./snapshot.js";
 import { Trouble } from "../common/trouble.js";
 
@@ -17,7 +18,7 @@ export const USUAL_SPEED = "386";
 /** What a record has beside its cycle: see machine/pc/records.c. */
 const TEXTS = 2, TIMES = 3;
 const WASM_PAGE = 65536, ROOM_BYTES = 128, MOST_BLOCK = 0x20000, TABLE_BYTES = 1024;
-const WITH_ALPHA = 1, ONCE = 2, BOOT = 1, PROGRAM = 0;
+const BOOT = 1, PROGRAM = 0;
 /** After so many frames in whose lines nothing was written to a register, one word stands for each pixel. */
 const CALM_FRAMES = 70;
 const BIOS_DATA = 0x400, MOST_FRAMES = 4096, MOST_MISSING = 64;
@@ -76,7 +77,8 @@ export class Machine {
 
   constructor(modules, fonts, heard = {}) {
     this.#heard = heard;
-    const adapter = new WebAssembly.Instance(modules.adapter, {}).exports;
+    this.library = new Adapter(new WebAssembly.Instance(modules.adapter, {}));
+    const { calls: adapter } = this.library;
     const env = { memory: adapter.memory };
     const reads = new WebAssembly.Instance(modules.reads, { adapter, env }).exports;
     const host = {
@@ -99,18 +101,16 @@ export class Machine {
   }
 
   #taken(size) {
-    const at = this.calls.page_take(size) >>> 0;
-    if (!at) throw new Trouble("There is no memory left for the machine.");
-    return at;
+    return this.library.take(size);
   }
 
   /** The adapter's memory. */
   get adapterBytes() {
-    return new Uint8Array(this.calls.memory.buffer);
+    return this.library.bytes;
   }
 
   get adapterView() {
-    return new DataView(this.calls.memory.buffer);
+    return this.library.view;
   }
 
   /** The processor's memory: the machine's own state, and in it the PC's memory. */
@@ -196,7 +196,7 @@ export class Machine {
     if (this.#isOpen) this.calls.zak_close(this.card);
     this.adapterBytes.fill(0, this.card, this.card + CARD_SIZE);
     const status = this.calls.zak_open(this.card, this.font, this.fontBytes);
-    if (status) throw new Trouble(`The card does not open: the module answers ${status}.`);
+    this.library.check(status);
     this.#isOpen = true;
   }
 
@@ -478,7 +478,7 @@ export class Machine {
     const frames = this.cpu.frames() - this.#stirred;
     // Whether a machine that was taken back, or started again, is calm is seen with its first frame.
     const isCalm = this.isDrawnOnce && (frames > CALM_FRAMES || frames < 0);
-    return isCalm ? WITH_ALPHA | ONCE : WITH_ALPHA;
+    return isCalm ? OPAQUE | ONCE : OPAQUE;
   }
 
   /** The first words of the room in which the adapter's calls tell. */
@@ -527,7 +527,7 @@ export class Machine {
     const registers = new Uint16Array(this.cpu.memory.buffer, at, 8), given = Array.from(registers);
     const block = this.#blockOf(given);
     this.adapterBytes.set(block, this.block);
-    const status = calls.zak_int10(this.card, room, this.block, block.length, this.table, 768,
+    const status = calls.zak_int10(this.card, room, this.block, block.length, this.table, MOST_TABLE,
       room + 16);
     if (this.#isRecording) this.blocks.push(block);
     if (status) {
@@ -632,7 +632,7 @@ export class Machine {
   /** The adapter's state as it is saved. */
   savedState() {
     const status = this.calls.zak_save(this.card, this.state, MOST_STATE, this.room);
-    if (status) throw new Trouble(`The card is not saved: the module answers ${status}.`);
+    this.library.check(status);
     const length = this.adapterView.getUint32(this.room, true);
     return this.adapterBytes.subarray(this.state, this.state + length);
   }
@@ -646,7 +646,7 @@ export class Machine {
       at += part.length;
     }
     const status = this.calls.zak_restore(this.card, this.state, length);
-    if (status) throw new Trouble(`The card is not restored: the module answers ${status}.`);
+    this.library.check(status);
   }
 
   /** A snapshot, which shares its parts with the one before where they are the same. */

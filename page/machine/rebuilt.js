@@ -1,7 +1,8 @@
 // Steps that rebuild a state from power-on, and the cycles of a call, as lines of a script. Both are the
 // adapter's (zak_rebuild, zak_cycles).
-import { Card } from "../module/adapter.js";
+import { Card, STATUS } from "../../javascript/zaklimot.js";
 import { Cycles } from "../run/call.js";
+import { Trouble } from "../common/trouble.js";
 import { readReport } from "../run/report.js";
 
 /** So many bytes a report of some cycles may have. */
@@ -21,16 +22,26 @@ function withCard(adapter, fonts, does) {
 
 /** A script's steps as lines: ports have three digits, and addresses five. */
 function linesOf(adapter, script) {
-  const text = new TextDecoder().decode(adapter.printed(script).text);
-  return text.trim().split("\n").map(line => line.replace(/^((?:in|out)w?) 0(?=[0-9A-F]{3}\b)/, "$1 ")
+  return adapter.print(script).trim().split("\n").map(line => line.replace(/^((?:in|out)w?) 0(?=[0-9A-F]{3}\b)/, "$1 ")
     .replace(/^((?:put|get)w?) 000(?=[0-9A-F]{5}\b)/, "$1 "));
+}
+
+/** The bytes of the script that leads to a card's state; a Trouble tells that no such script was found. */
+function rebuiltScript(card) {
+  try {
+    return card.rebuild().script;
+  } catch (error) {
+    if (error.status === STATUS.NOT_REBUILT) throw new Trouble("No steps from power-on are known that lead to this state.");
+    if (error.status === STATUS.TOO_LONG) throw new Trouble("The steps that rebuild this state would be too many.");
+    throw error;
+  }
 }
 
 /** The bytes of the script that leads to a saved state. */
 function scriptTo(adapter, fonts, bytes) {
   return withCard(adapter, fonts, card => {
-    card.restore([bytes]);
-    return card.rebuilt().script;
+    card.restore(bytes);
+    return rebuiltScript(card);
   });
 }
 
@@ -43,7 +54,7 @@ export function rebuildingLines(adapter, fonts, bytes) {
 function answersOf(card, script, count) {
   const answers = [];
   while (answers.length < count) {
-    const first = answers.length, { taken, report } = card.runOn(script, first, count - first, REPORT);
+    const first = answers.length, { taken, report } = card.runOn(script, { first, most: count - first, room: REPORT });
     readReport(report, first + 1, taken, (_, answer) => answers.push(answer));
   }
   return answers;
@@ -67,9 +78,9 @@ export function cyclesTo(adapter, fonts, bytes) {
 }
 
 /** The cycles of a call, as `cyclesTo` tells them; `call` has its registers and block. None if it is refused. */
-export function cyclesOfCall(before, call) {
-  const { status, bytes } = before.card.cycles(call);
-  if (status) return [];
+export function cyclesOfCall(before, { registers, block }) {
+  const bytes = before.card.tryCycles(registers, block);
+  if (!bytes) return [];
   const cycles = new Cycles(bytes), lines = Array.from(cycles.kinds, (_, entry) => cycles.wordsOf(entry));
   return answered(lines, answersOf(before.scratch, bytes, lines.length));
 }

@@ -219,7 +219,6 @@ export class Recording extends StepList {
 const FRONT_BYTES = 5;
 /** So many entries are assembled at a time: their text is not too long. */
 const CHUNK = 100000;
-const encoder = new TextEncoder();
 
 /** The texts of a recording's steps, so many at a time, each a script of its own. */
 function* chunksOf(recording) {
@@ -237,15 +236,14 @@ function assembledRecording(adapter, recording) {
   let blocks = [];
   const addBlocks = () => {
     if (!blocks.length) return;
-    const { bytes } = adapter.assembled(encoder.encode(blocks.join("")));
-    parts.push(bytes.subarray(FRONT_BYTES));
+    parts.push(adapter.assemble(blocks.join("")).subarray(FRONT_BYTES));
     blocks = [];
   };
   for (const chunk of chunksOf(recording)) {
     const isBlock = chunk.startsWith("version 2\n");
     if (!isBlock) addBlocks();
     else blocks.push(blocks.length ? chunk.slice("version 2\n".length) : chunk);
-    if (!isBlock) parts.push(adapter.assembled(encoder.encode(chunk)).bytes.slice(FRONT_BYTES));
+    if (!isBlock) parts.push(adapter.assemble(chunk).slice(FRONT_BYTES));
     if (blocks.length === CHUNK / 4) addBlocks();
   }
   addBlocks();

@@ -16,7 +16,7 @@ import { ask } from "../compare/asking.js";
 import { filesOfZip, isZip } from "./zip.js";
 import { traceOfRecording } from "./windowtrace.js";
 import { Trouble } from "../common/trouble.js";
-import { unzipped } from "../module/packed.js";
+import { unzipped } from "../common/packed.js";
 
 /** How many instructions stand before the one that is shown, and after it. */
 const BEFORE = 12, AFTER = 24;

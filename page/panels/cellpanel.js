@@ -1,6 +1,6 @@
 // The cells of text that the adapter shows, with their characters' glyphs in plane 2.
-import { LETTERS_437 } from "../module/codepage.js";
-import { characterWidth, dacEntry } from "../module/state.js";
+import { LETTERS_437 } from "../common/codepage.js";
+import { characterWidth, dacEntry } from "../run/state.js";
 import { textRows } from "../explain/frame.js";
 import { element, setAll, setText } from "../common/dom.js";
 import { hex, sameWords, wordsOfBytes } from "../common/bytes.js";

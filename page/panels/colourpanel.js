@@ -1,6 +1,6 @@
 // The palette and the DAC as swatches with numbers.
 import { classesOf, cssColour, element, pageLink, setAll, setText } from "../common/dom.js";
-import { dacEntry } from "../module/state.js";
+import { dacEntry } from "../run/state.js";
 import { differingColours } from "../run/changes.js";
 import { hex } from "../common/bytes.js";
 import { isWritten } from "../common/rows.js";

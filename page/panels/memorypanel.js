@@ -3,10 +3,10 @@ import { classesOf, element, selectOf, setAll, setText } from "../common/dom.js"
 import { counted, differingWord, grouped, hex, wordsOfBytes } from "../common/bytes.js";
 import { changedPlanes } from "../run/changes.js";
 import { isWritten } from "../common/rows.js";
-import { rowBytes } from "../module/state.js";
+import { rowBytes } from "../run/state.js";
 import { shownBytes } from "../explain/frame.js";
 
-const PLANE_LENGTH = 65536, WORDS = PLANE_LENGTH / 4, NOTHING = new Uint8Array(PLANE_LENGTH);
+const PLANE_SIZE = 65536, WORDS = PLANE_SIZE / 4, NOTHING = new Uint8Array(PLANE_SIZE);
 const WIDEST_PITCH = 2040, HEX_ROWS = 16, HEX_COLUMNS = 16, USUAL_PITCH = 80;
 const COLOURS = { on: 0xffffffff, off: 0xff000000, shownOff: 0xff4a2a14, hiddenOn: 0xff8a8a8a,
   changedOn: 0xff44c3f6, changedOff: 0xff104a6a };
@@ -106,10 +106,10 @@ class PlaneBitmap {
 
   /** Clears the canvas: on it stand bytes of which all are 0, none is shown and none has a mark. */
   shape(pitch, scale) {
-    const width = 8 * pitch / scale, height = Math.ceil(PLANE_LENGTH / pitch / scale);
+    const width = 8 * pitch / scale, height = Math.ceil(PLANE_SIZE / pitch / scale);
     Object.assign(this.canvas, { width, height });
     // A last row may go on behind the bytes.
-    const length = 8 * (PLANE_LENGTH + scale * WIDEST_PITCH) / scale / scale;
+    const length = 8 * (PLANE_SIZE + scale * WIDEST_PITCH) / scale / scale;
     const room = this.rooms[scale] ??= { words: new Uint32Array(length), end: length }, { words } = room;
     words.fill(COLOURS.off, 0, room.end);
     room.end = 0;
@@ -133,7 +133,7 @@ function nextWord(pairs, from) {
 /** Of each byte of a plane, whether it has a mark. */
 class Marks {
   constructor() {
-    Object.assign(this, { bytes: new Uint8Array(PLANE_LENGTH), found: [] });
+    Object.assign(this, { bytes: new Uint8Array(PLANE_SIZE), found: [] });
   }
 
   /** Marks these bytes, and no others. */
@@ -309,13 +309,13 @@ export class MemoryPanel {
 
   /** Shows a byte of the plane, and marks it. */
   lookAt(offset) {
-    const at = Math.max(0, Math.min(PLANE_LENGTH - 1, offset));
+    const at = Math.max(0, Math.min(PLANE_SIZE - 1, offset));
     this.look(at);
     this.table.mark(at - this.offset);
   }
 
   look(offset) {
-    this.offset = Math.max(0, Math.min(PLANE_LENGTH - HEX_ROWS * HEX_COLUMNS, offset & ~15));
+    this.offset = Math.max(0, Math.min(PLANE_SIZE - HEX_ROWS * HEX_COLUMNS, offset & ~15));
     this.fill();
   }
 

@@ -1,5 +1,5 @@
 // The breakpoints, and the form that makes them.
-import { GROUPS } from "../module/registers.js";
+import { GROUPS } from "../script/registers.js";
 import { element, selectOf } from "../common/dom.js";
 import { hex } from "../common/bytes.js";
 import { pointText } from "../run/points.js";

@@ -1,5 +1,5 @@
 // The registers by name with their fields; what the last step has changed is marked.
-import { GROUPS, fieldValue, indexPort, valuesOf } from "../module/registers.js";
+import { GROUPS, fieldValue, indexPort, valuesOf } from "../script/registers.js";
 import { Parts } from "../common/parts.js";
 import { byId, classesOf, element, pageLink, setAll, setText } from "../common/dom.js";
 import { hex } from "../common/bytes.js";
@@ -147,13 +147,13 @@ function otherRows(state) {
     ["DAC index, next component",
       `${hex(registers.dacIndex, 2)}, ${["red", "green", "blue"][registers.dacComponent]}`],
     ["DAC mask", hex(registers.dacMask, 2)],
-    ["red and green that wait", `${hex(registers.dacRed, 2)} ${hex(registers.dacGreen, 2)}`],
+    ["red and green that wait", `${hex(registers.dacWaitingRed, 2)} ${hex(registers.dacWaitingGreen, 2)}`],
   ];
 }
 
 /** Input status 1 as a program would read it. */
 export function statusOne(state) {
-  const value = state.scratch.read(state.registers.misc & 1 ? 0x3da : 0x3ba);
+  const value = state.scratch.tryIn(state.registers.misc & 1 ? 0x3da : 0x3ba);
   return hex(value, 2) + (value & 8 ? ": vertical retrace" : value & 1 ? ": no display dot" : ": a display dot");
 }
 

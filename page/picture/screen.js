@@ -1,7 +1,7 @@
 // The picture as it is drawn so far. What is not drawn yet is dark, cross-hairs show the beam, a
 // glass dots.
 import { byId, cssColour, element, setAll } from "../common/dom.js";
-import { characterWidth } from "../module/state.js";
+import { characterWidth } from "../run/state.js";
 import { dotOfSeen } from "../explain/dotsearch.js";
 import { lineOfDot } from "../explain/dotrows.js";
 import { differingWord, hex, wordsOfBytes } from "../common/bytes.js";

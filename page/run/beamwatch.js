@@ -2,7 +2,7 @@
 // picture. How many dots lead there, the adapter's clock tells.
 import { KIND } from "../script/steplist.js";
 import { dotsAhead, isDisplayed } from "../explain/way.js";
-import { drawnDots } from "../module/state.js";
+import { drawnDots } from "./state.js";
 
 /** A watch of steps that let dots pass. */
 class ClockWatch {
@@ -54,7 +54,7 @@ export class DrawnWatch extends ClockWatch {
     const { line } = this, beam = card.beam(), clock = card.clock();
     const from = { registers: card.registers(), beam, clock };
     // Dots drawn so far matter only while the beam is in the line.
-    const drawn = beam.line === line ? drawnDots(card.saved(), line) : 0;
+    const drawn = beam.line === line ? drawnDots(card.saveView(), line) : 0;
     const found = dotsAhead(from, this, drawn).filter(one => one && isDisplayed(card, { line, ...one }));
     return { clock, ahead: found.map(({ dots }) => dots) };
   }

@@ -1,10 +1,11 @@
 // A BIOS call that is stepped into: its cycles (zak_cycles) as the steps of a session of their own, which
 // begins with the state before the call.
-import { Card, STATUS_TOO_LONG } from "../module/adapter.js";
+import { Card, STATUS } from "../../javascript/zaklimot.js";
 import { KIND, STEP_NAMES, StepList } from "../script/steplist.js";
 import { MAGIC, Operations, SIZES } from "./scout.js";
 import { MOST_BYTES } from "../script/grammar.js";
 import { Session } from "./session.js";
+import { savedBytes } from "./state.js";
 import { Trouble } from "../common/trouble.js";
 import { grouped, hex, joinedBytes } from "../common/bytes.js";
 import { whyRefused } from "../explain/refusals.js";
@@ -80,7 +81,7 @@ export class CallSession extends Session {
 
   /** Whether the cycles, once all are taken, leave what the call leaves: all but the BIOS data. */
   get isTrue() {
-    const { call: { after } } = this, left = this.ahead.save(), [from, to] = BIOS_DATA;
+    const { call: { after } } = this, left = savedBytes(this.ahead), [from, to] = BIOS_DATA;
     return isSame(left, after, 0, from) && isSame(left, after, to, after.length);
   }
 
@@ -97,16 +98,16 @@ export function isCallAt({ outline, length }, step) {
 }
 
 /** Why a call has no cycles that could be shown; an empty text where it has some. */
-function whyNone({ status, bytes }, session, step, before) {
+function whyNone(cycles, status, session, step, before) {
   const name = `Step ${grouped(step)}`;
-  if (status === STATUS_TOO_LONG) {
+  if (status === STATUS.TOO_LONG) {
     return `${name} makes too many cycles: the list of them may have ${grouped(MOST_BYTES)} bytes, which ` +
       "are about 2,800,000 cycles.";
   }
   if (status) {
     return `${name} is refused, so it makes no cycle. ${whyRefused(session, step - 1, before)?.text ?? ""}`;
   }
-  return bytes.length > MAGIC ? "" : `${name} makes no cycle: it takes and changes BIOS data alone.`;
+  return cycles.length > MAGIC ? "" : `${name} makes no cycle: it takes and changes BIOS data alone.`;
 }
 
 /**
@@ -119,13 +120,13 @@ export function openCall(session, step, before) {
   const words = outline.wordsOf(entry), bytes = session.pieces.bytes(entry, 1, 1);
   const card = new Card(adapter, fonts);
   try {
-    card.restore([before.bytes]);
-    const told = card.cycles(new Operations(bytes, 1).call(0));
-    const why = whyNone(told, session, step, before);
+    card.restore(before.bytes);
+    const { registers, block } = new Operations(bytes, 1).call(0), cycles = card.tryCycles(registers, block);
+    const why = whyNone(cycles, card.status, session, step, before);
     if (why) throw new Trouble(why);
-    card.runOn(bytes, 0, 1, MOST_ANSWER);
-    return new CallSession(session, { step, words, script: told.bytes, before: before.bytes,
-      after: card.save() });
+    card.runOn(bytes, { most: 1, room: MOST_ANSWER });
+    return new CallSession(session, { step, words, script: cycles, before: before.bytes,
+      after: savedBytes(card) });
   } finally {
     card.close();
   }

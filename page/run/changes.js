@@ -1,5 +1,5 @@
 // What a step has changed: the differences of the states before and after it.
-import { GROUPS, valuesOf } from "../module/registers.js";
+import { GROUPS, valuesOf } from "../script/registers.js";
 import { counted, differingWord, hex, wordsOfBytes } from "../common/bytes.js";
 
 const POINTERS = { seqIndex: "sequencer index", gfxIndex: "graphics index",

@@ -1,7 +1,8 @@
 // Compares the answers of a run, which was taken some steps at a time, with those of one call of
 // zak_run, which takes the whole script. A worker does it in a module of its own, so that the page
 // goes on meanwhile.
-import { Adapter, STATUS_NO_ROOM } from "../module/adapter.js";
+import { Adapter } from "./adapter.js";
+import { STATUS } from "../../javascript/zaklimot.js";
 import { Trouble } from "../common/trouble.js";
 import { grouped, wordsOfBytes } from "../common/bytes.js";
 import { readReport } from "./report.js";
@@ -38,6 +39,20 @@ export function digitsTo(number) {
 }
 
 /**
+ * A whole run from power-on whose report may have so many bytes as are told: { status, length, report }.
+ * The report is a view of the module's memory, since it may be long; its length is told where it has no
+ * room.
+ */
+function runWithin(adapter, { script, fonts, reported }) {
+  const { calls, lengths } = adapter, given = adapter.given("steps", script), font = adapter.given("fonts", fonts);
+  const room = adapter.room("report", Math.max(1, reported));
+  const status = calls.zak_run(given.at, given.length, font.at, font.length, room.at, reported, lengths, lengths + 8);
+  if (status === STATUS.OUT_OF_MEMORY) throw adapter.error(status);
+  const isKnown = !status || status === STATUS.NO_ROOM, length = isKnown ? adapter.number(0) : 0;
+  return { status, length, report: adapter.bytes.subarray(room.at, room.at + (status ? 0 : length)) };
+}
+
+/**
  * Compares a run with one by zak_run: what differs, in words; an empty text if nothing does.
  *
  * A run is { script, fonts, steps, reported, numbers, texts, cut, sums }: `reported` is the length
@@ -45,8 +60,8 @@ export function digitsTo(number) {
  * picture and for each answer whose text is cut off; `cut` has the numbers of these texts.
  */
 export function comparedToRun(adapter, run) {
-  const { status, length, report } = adapter.runWithin(run.script, run.fonts, run.reported);
-  if (status && status !== STATUS_NO_ROOM) return `zak_run answers ${status}`;
+  const { status, length, report } = runWithin(adapter, run);
+  if (status && status !== STATUS.NO_ROOM) return `zak_run answers ${status}`;
   if (length === run.reported) return firstDifference(report, run);
   return `its report has ${grouped(length)} bytes, and this run's ${grouped(run.reported)}`;
 }
@@ -73,7 +88,7 @@ function firstDifference(report, { steps, numbers, texts, cut, sums }) {
 /** In a worker: compares the run that the page sends; what came of it, or why nothing did. */
 export async function comparedToSend(module, run) {
   try {
-    return { difference: comparedToRun(await Adapter.opened(module), run) };
+    return { difference: comparedToRun(await Adapter.of(module), run) };
   } catch (error) {
     return { trouble: error.message };
   }

@@ -1,6 +1,6 @@
 // Reads a long text in a worker, so that keys are not late meanwhile: whether each line is a step,
 // and where the steps stand. The worker is the page's own script, with a module of its own.
-import { Adapter } from "../module/adapter.js";
+import { Adapter } from "./adapter.js";
 import { Outline } from "../script/outline.js";
 import { Trouble } from "../common/trouble.js";
 import { judgedText } from "./session.js";
@@ -11,7 +11,7 @@ export const LONG_TEXT = 100000;
 /** In a worker: what a text is, in a form that can be sent: { script, outline }, or { trouble }. */
 export async function judgedToSend(module, text) {
   try {
-    const { script, outline } = judgedText(await Adapter.opened(module), text);
+    const { script, outline } = judgedText(await Adapter.of(module), text);
     return { script, outline: outline.parts };
   } catch (error) {
     const { message, line, at, width } = error;

@@ -2,15 +2,19 @@
 // its own that it has assembled from the script's text. A step therefore costs as much at the end
 // of a long script as at its beginning.
 import { KIND } from "../script/steplist.js";
-import { MOST_PICTURE } from "../module/adapter.js";
+import { MOST_RGB } from "../../javascript/zaklimot.js";
 
 /** The steps of a piece outside blocks, and the steps that a small block is repeated to. */
 const PIECE_STEPS = 2048;
 /** The bytes of assembled pieces that are cached. */
 const MOST_PIECES = 1 << 25;
+/** The least room for a report. */
+const LEAST_ROOM = 4096;
 /** The bytes of report that a slice of steps may have, unless a single step has more. */
 const MOST_REPORT = 1 << 20;
 
+/** Bytes of the largest picture, with its head and a newline. */
+const MOST_PICTURE = MOST_RGB + 32;
 /** The milliseconds that a step of a kind takes, about, and the most bytes of its report line. */
 const COSTS = {
   [KIND.int]: { time: 1, report: 2048 },
@@ -53,7 +57,7 @@ export class Pieces {
     if (old) return old;
     const steps = this.outline.textOf(from, count);
     const text = turns === 1 ? steps : `version 2\nrepeat ${turns}\n${steps}\nend\n`;
-    const { bytes } = this.adapter.assembled(new TextEncoder().encode(text));
+    const bytes = this.adapter.assemble(text);
     if (this.#size > MOST_PIECES) {
       this.#cache.clear();
       this.#size = 0;
@@ -96,7 +100,8 @@ export class Pieces {
   runOn(card, step, most, milliseconds) {
     const piece = this.at(step);
     const { count, room } = this.slice(step, Math.min(most, piece.most), milliseconds);
-    const { taken, report } = card.runOn(piece.bytes, piece.first, count, room);
+    const { taken, report } = card.runOn(piece.bytes, { first: piece.first, most: count,
+      room: Math.max(room, LEAST_ROOM) });
     return { taken, first: piece.first + 1, report };
   }
 }

@@ -2,7 +2,7 @@
 import { AnyWatch, BiosWatch, BytesWatch, ColourWatch, PaletteWatch,
   RegisterWatch } from "./watching.js";
 import { BeamWatch, DrawnWatch } from "./beamwatch.js";
-import { GROUPS } from "../module/registers.js";
+import { GROUPS } from "../script/registers.js";
 import { KIND } from "../script/steplist.js";
 import { hex } from "../common/bytes.js";
 import { isRefusal } from "../script/expecting.js";

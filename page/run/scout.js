@@ -1,12 +1,12 @@
 // A card of its own that goes through a run's steps for a search, by a call of the module for each
 // step: the page's picture stays as it is meanwhile, and a step costs less than by zak_run_on,
 // since no report is made.
-import { Card } from "../module/adapter.js";
+import { Card } from "../../javascript/zaklimot.js";
 import { KIND } from "../script/steplist.js";
 
 /** A script's bytes begin with four letters and its version. */
 export const MAGIC = 5;
-const VERSION_TWO = 2, REPEAT = 13, END = 14, MOST_TABLE = 768;
+const VERSION_TWO = 2, REPEAT = 13, END = 14;
 /** Bytes of the steps by their kinds, but for `int`, which has a block, and `show`. */
 export const SIZES = { [KIND.out]: 4, [KIND.outw]: 5, [KIND.in]: 3, [KIND.inw]: 3, [KIND.put]: 6,
   [KIND.putw]: 7, [KIND.get]: 5, [KIND.getw]: 5, [KIND.advance]: 5, [KIND.frame]: 1 };
@@ -63,11 +63,11 @@ export class Operations {
     return isWord ? this.view.getUint16(from, true) : this.script[from];
   }
 
-  /** The four registers of a call, as eight bytes, and its block. */
+  /** The registers of a call, and its block. */
   call(entry) {
     const at = this.starts[entry], length = this.view.getUint16(at + 9, true);
-    return { registers: this.script.subarray(at + 1, at + 9),
-      block: this.script.subarray(at + 11, at + 11 + length) };
+    const [ax, bx, cx, dx] = [1, 3, 5, 7].map(place => this.view.getUint16(at + place, true));
+    return { registers: { ax, bx, cx, dx }, block: this.script.subarray(at + 11, at + 11 + length) };
   }
 }
 
@@ -78,7 +78,7 @@ export class Scout {
     Object.assign(this, { session, adapter, outline });
     this.operations = new Operations(script, outline.kinds.length);
     this.card = new Card(adapter, fonts);
-    this.room = adapter.taken(1024);
+    this.room = adapter.take(1024);
     /** Where a beam stands that a search asks about, behind what the calls write. */
     this.beam = this.room + 1024 - 64;
     // After how many steps the card is; -1 where nothing is known of it.
@@ -87,12 +87,12 @@ export class Scout {
 
   close() {
     this.card.close();
-    this.adapter.calls.page_give(this.room);
+    this.adapter.give(this.room);
   }
 
   /** Takes one step, the `entry` of the script. */
   take(entry) {
-    const { operations, adapter: { calls }, card: { at: card }, room } = this;
+    const { operations, adapter: { calls }, card: { address: card }, room } = this;
     const kind = operations.kind(entry);
     this.at++;
     if (kind >= KIND.int) return this.takeOther(kind, entry);
@@ -111,7 +111,7 @@ export class Scout {
 
   /** Takes a step that has no port and no address. */
   takeOther(kind, entry) {
-    const { adapter: { calls }, card: { at: card }, room } = this;
+    const { adapter: { calls }, card: { address: card }, room } = this;
     if (kind === KIND.int) return this.callBios(entry);
     if (kind === KIND.advance) return calls.zak_advance(card, this.operations.place(entry));
     // With no room for the picture the frame passes all the same.
@@ -119,11 +119,9 @@ export class Scout {
   }
 
   callBios(entry) {
-    const { adapter, card, room } = this, { registers, block } = this.operations.call(entry);
-    const given = adapter.given("block", block);
-    adapter.bytes.set(registers, room);
-    return adapter.calls.zak_int10(card.at, room, given.at, given.length, room + 16, MOST_TABLE,
-      room + 8);
+    const { registers, block } = this.operations.call(entry);
+    this.card.tryInt10(registers, block);
+    return this.card.status;
   }
 
   /**
@@ -155,7 +153,7 @@ export class Scout {
 
   restore({ at, parts }) {
     this.at = -1;
-    this.card.restore(parts);
+    this.card.restore(...parts);
     this.at = at;
   }
 }

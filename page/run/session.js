@@ -2,7 +2,7 @@
 // back. Each step and each answer is the module's (zak_run_on); states are its bytes (zak_save,
 // zak_restore).
 import { Answers } from "./answers.js";
-import { Card } from "../module/adapter.js";
+import { Card, STATUS } from "../../javascript/zaklimot.js";
 import { Checkpoints } from "./checkpoints.js";
 import { KIND } from "../script/steplist.js";
 import { Outline } from "../script/outline.js";
@@ -10,7 +10,7 @@ import { MOST_BYTES } from "../script/grammar.js";
 import { MOST_COMPARED, comparedToRun, digitsTo, sumOfBytes, sumOfText } from "./comparing.js";
 import { Pieces } from "./pieces.js";
 import { Scout } from "./scout.js";
-import { State, openAsked } from "../module/state.js";
+import { State, openAsked } from "./state.js";
 import { Trouble } from "../common/trouble.js";
 import { counted, grouped } from "../common/bytes.js";
 import { encodingTrouble } from "../script/foreign.js";
@@ -30,6 +30,17 @@ const MOST_DIFFERING = 100000, SLICE = 8;
 /** The first letter of a refusal, E. */
 const LETTER_E = 69;
 
+/** The bytes of the script that a text spells: { script, line }. A bad line's number is `line`, else 0. */
+function assembled(adapter, text) {
+  try {
+    return { script: adapter.assemble(text), line: 0 };
+  } catch (error) {
+    if (error.status === STATUS.BAD_LINE) return { line: error.place };
+    if (error.status !== STATUS.TOO_LONG) throw error;
+    throw new Trouble(`The steps of the text have more bytes, and ${grouped(MOST_BYTES)} bytes are the most.`);
+  }
+}
+
 /**
  * The steps of a text as the module reads it: { script, outline }. A bad text is a Trouble with the
  * line and the reason.
@@ -39,7 +50,7 @@ export function judgedText(adapter, text) {
   if (bytes.length > MOST_BYTES) {
     throw new Trouble(`The text has more than ${grouped(MOST_BYTES)} bytes.`);
   }
-  const { bytes: script, line } = adapter.assembled(bytes);
+  const { script, line } = assembled(adapter, bytes);
   if (!line) return { script, outline: new Outline(text) };
   const whole = line === 1 ? encodingTrouble(bytes) : null, { reason, at, width } = mistakeIn(adapter, bytes);
   throw Object.assign(new Trouble(whole ?? reason, line), { at, width });
@@ -108,7 +119,7 @@ export class Session {
       this.ahead.close();
       throw trouble;
     }
-    if (begin) for (const card of [this.ahead, this.card]) card.restore([begin]);
+    if (begin) for (const card of [this.ahead, this.card]) card.restore(begin);
     this.#checkpoint();
   }
 
@@ -121,7 +132,7 @@ export class Session {
     this.ahead.close();
     this.#card.close();
     this.#scout?.close();
-    this.adapter.giveBack();
+    this.adapter.trim();
   }
 
   get isDone() {
@@ -130,7 +141,7 @@ export class Session {
 
   /** The card that shows steps, in the state after `at` of them. */
   get card() {
-    if (this.#left) this.#card.restore([this.#left.bytes]);
+    if (this.#left) this.#card.restore(this.#left.bytes);
     this.#left = null;
     return this.#card;
   }
@@ -194,7 +205,7 @@ export class Session {
 
   /** Saves the state of the card ahead. If the checkpoints are full, every other one goes. */
   #checkpoint() {
-    this.checkpoints.add(this.ran, this.ahead.saved());
+    this.checkpoints.add(this.ran, this.ahead.saveView());
     this.#sinceCheckpoint = 0;
     if (!this.checkpoints.isFull) return;
     this.spacing *= 2;
@@ -205,7 +216,7 @@ export class Session {
   #checkpointNear() {
     if (this.#sinceNear < SPACING) return;
     if (this.near.isFull) this.near.clear();
-    this.near.add(this.at, this.card.saved());
+    this.near.add(this.at, this.card.saveView());
     this.#sinceNear = 0;
   }
 
@@ -237,7 +248,7 @@ export class Session {
   restore({ at, parts }) {
     this.at = -1;
     this.#left = null;
-    this.#card.restore(parts);
+    this.#card.restore(...parts);
     this.at = at;
     this.#sinceNear = 0;
   }
@@ -333,7 +344,7 @@ export class Session {
   get whole() {
     const { fonts, outline, length, answers, sums, comparable: { steps, reported } } = this;
     const script = steps === length ? this.script
-      : this.adapter.assembled(new TextEncoder().encode(outline.firstSteps(steps))).bytes;
+      : this.adapter.assemble(outline.firstSteps(steps));
     return { script, fonts, steps, reported, numbers: answers.numbers.slice(0, steps),
       texts: answers.texts, cut: answers.cut, sums: Int32Array.from(sums) };
   }

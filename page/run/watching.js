@@ -2,7 +2,8 @@
 // watch tells by a step's words whether the step may change what is watched, so that the others
 // need not be looked at, and holds the value after a step to the one before.
 import { KIND } from "../script/steplist.js";
-import { placeInStruct } from "../module/structs.js";
+import { biosDataOf } from "./state.js";
+import { placeInStruct } from "../../javascript/zaklimot.js";
 
 const PLANES = [0, 1, 2, 3], ENTRIES = 256;
 /** The ports by which the registers of a group, and its index, are written. */
@@ -59,7 +60,7 @@ export class RegisterWatch extends Watch {
   }
 
   read({ adapter, card, room }) {
-    adapter.calls.zak_read_registers(card.at, room);
+    adapter.calls.zak_read_registers(card.address, room);
     const { bytes } = adapter;
     return this.parts.map(({ at, mask }) => bytes[room + at] & mask);
   }
@@ -86,7 +87,7 @@ export class ColourWatch extends Watch {
 }
 
 function colourAt(adapter, card, room, index) {
-  adapter.calls.zak_read_colour(card.at, index, room);
+  adapter.calls.zak_read_colour(card.address, index, room);
   const { bytes } = adapter;
   return bytes[room] << 16 | bytes[room + 1] << 8 | bytes[room + 2];
 }
@@ -107,7 +108,7 @@ export class PaletteWatch extends Watch {
   isChanged(scout, operation) {
     const { adapter, card, room } = scout;
     if (operation.kind === KIND.int) return super.isChanged(scout, operation);
-    adapter.calls.zak_read_registers(card.at, room);
+    adapter.calls.zak_read_registers(card.address, room);
     const index = adapter.bytes[room + placeInStruct("zak_registers", "dacIndex")];
     return [index, index - 1 & 255].map(one => {
       const now = colourAt(adapter, card, room, one), isOther = now !== this.old[one];
@@ -125,7 +126,7 @@ const OFFSET = placeInStruct("zak_write_stages", "offset");
 
 /** The offset in each plane to which a write leads; -1 where no memory answers. */
 function offsetOf({ adapter, card, room }, address) {
-  if (adapter.calls.zak_explain_put(card.at, address, 0, room)) return -1;
+  if (adapter.calls.zak_explain_put(card.address, address, 0, room)) return -1;
   const { bytes } = adapter;
   return bytes[room + OFFSET] | bytes[room + OFFSET + 1] << 8;
 }
@@ -161,7 +162,7 @@ export class BytesWatch extends Watch {
     if (offset < from || offset > to) return false;
     let isFound = false;
     for (let i = 0; i < planes.length; i++) {
-      adapter.calls.zak_read_plane(card.at, planes[i], offset, room, 1);
+      adapter.calls.zak_read_plane(card.address, planes[i], offset, room, 1);
       const now = adapter.bytes[room], bytes = old[i], at = offset - from;
       if (now === bytes[at]) continue;
       bytes[at] = now;
@@ -192,7 +193,7 @@ export class BiosWatch extends Watch {
   }
 
   read({ card }) {
-    const value = card.bda()[this.name];
+    const value = biosDataOf(card)[this.name];
     return Array.isArray(value) ? value[this.page] : value;
   }
 }

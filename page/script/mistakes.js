@@ -27,7 +27,7 @@ function lineOf(bytes, number) {
  * from 1, or 0 for the whole text, and the part of the line in letters. Null for a script.
  */
 export function mistakeIn(adapter, bytes) {
-  const told = adapter.mistakeIn(bytes);
+  const told = adapter.explainText(bytes);
   if (!told) return null;
   const { line, start, length, kind, sentence } = told;
   if (!line) return { line, at: 0, width: 0, reason: sentence };

@@ -3,11 +3,11 @@
 import assert from "node:assert/strict";
 import { readFileSync, readdirSync } from "node:fs";
 import test from "node:test";
-import { Card } from "../module/adapter.js";
+import { Card } from "../../javascript/zaklimot.js";
 import { Finder } from "../explain/finder.js";
 import { RUN, Runner, TASK } from "../run/runner.js";
 import { Session } from "../run/session.js";
-import { State } from "../module/state.js";
+import { State } from "../run/state.js";
 import { isCallAt, openCall } from "../run/call.js";
 import { isRefusal } from "../script/expecting.js";
 import { subjectOf } from "../explain/subjects.js";
@@ -87,13 +87,12 @@ test("cycles are the steps that lead there: each state is that of the same steps
   const session = sessionOf("int ax=12\nput A0000 FF\nint ax=0C05 cx=9 dx=7\nint ax=0D00 cx=9 dx=7");
   const call = runWhole(entered(session, 3)), card = new Card(adapter, FONTS);
   assert.ok(call.length > 5);
-  card.restore([stateAfter(session, 2).bytes]);
+  card.restore(stateAfter(session, 2).bytes);
   const [first] = Array.from({ length: call.length }, (_, i) => call.outline.wordsOf(i));
   assert.match(first, /^(out|in) 3C/);
   for (let steps = 0; steps <= call.length; steps++) {
     if (steps) {
-      const { bytes } = adapter.assembled(new TextEncoder().encode(call.outline.wordsOf(steps - 1)));
-      card.runOn(bytes, 0, 1, 4096);
+      card.runOn(call.outline.wordsOf(steps - 1), { most: 1 });
     }
     assert.ok(call.seek(steps));
     assert.ok(Buffer.compare(call.card.save(), card.save()) === 0, `after cycle ${steps}`);

@@ -18,5 +18,5 @@ test("an example that expects another answer is told", async () => {
 
 test("fonts that are none are told", async () => {
   await assert.rejects(checkedExamples(await loadAdapter(), FONTS.subarray(1), examples().slice(0, 1)),
-    /does not open/);
+    /The font file does not have 9,728 bytes/);
 });

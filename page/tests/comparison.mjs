@@ -15,7 +15,7 @@ import { FONTS, TOP, examples, loadAdapter, runWhole } from "./loading.mjs";
 
 const adapter = await loadAdapter();
 const sessionOf = text => runWhole(new Session(adapter, FONTS, text));
-const bytesOfRun = session => adapter.run(session.script, FONTS, session.reported).report;
+const bytesOfRun = session => adapter.run(session.script, { fonts: FONTS, room: session.reported });
 const example = name => examples().find(one => one.name === name).text;
 
 /** The report of some bytes, read to its end. */

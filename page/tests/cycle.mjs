@@ -2,8 +2,8 @@
 // each plane after a write, the value and the latches after a read, for random registers.
 import assert from "node:assert/strict";
 import test from "node:test";
-import { Card } from "../module/adapter.js";
-import { State } from "../module/state.js";
+import { Card } from "../../javascript/zaklimot.js";
+import { State } from "../run/state.js";
 import { tablesOfStep } from "../explain/cycletable.js";
 import { Random, keptBits, stateOf } from "./randomly.mjs";
 import { FONTS, loadAdapter } from "./loading.mjs";
@@ -17,11 +17,11 @@ const PLANES = [0, 1, 2, 3];
 
 /** Writes some of the registers by chance; the others stay. */
 function write(card, random) {
-  if (!random.below(8)) card.write(0x3c2, random.below(6) ? 3 | random.byte() : random.byte());
+  if (!random.below(8)) card.tryOut(0x3c2, random.below(6) ? 3 | random.byte() : random.byte());
   for (const [group, port] of [["seq", 0x3c4], ["gfx", 0x3ce]]) {
     const i = random.below(USED[group].length);
-    card.write(port, i);
-    card.write(port + 1, random.byte() & USED[group][i]);
+    card.tryOut(port, i);
+    card.tryOut(port + 1, random.byte() & USED[group][i]);
   }
 }
 
@@ -53,13 +53,13 @@ function hold(card, { name }, tables, told) {
 
 test(`${TRIALS} random reads and writes do what is shown of them`, () => {
   const card = new Card(adapter, FONTS), random = new Random(7), out = adapter.room("cycle", 16), kinds = new Map();
-  card.restore([stateOf(card.save(), random, () => 0)]);
+  card.restore(stateOf(card.save(), random, () => 0));
   for (let trial = 0; trial < TRIALS; trial++) {
     write(card, random);
     const step = randomStep(random), tables = tablesOfStep(State.of(card), step), { name, place, value } = step;
-    const status = adapter.calls[CALLS[name]](card.at, place, name.startsWith("put") ? value : out.at);
+    const status = adapter.calls[CALLS[name]](card.address, place, name.startsWith("put") ? value : out.at);
     assert.equal(status !== 0, tables.length === 0, JSON.stringify(step));
-    if (!status) hold(card, step, tables, adapter.copied(out, 2));
+    if (!status) hold(card, step, tables, adapter.copied(out.at, 2));
     const kind = status ? "refused" : `${name}: ${tables[0].sentences[1].slice(0, 12)}`;
     kinds.set(kind, (kinds.get(kind) ?? 0) + 1);
   }
@@ -72,16 +72,16 @@ test("the tables of HOST-PATH.md: write mode 0 to 3 of the byte 81", () => {
   const wanted = [[0xff, 0x33, 0x65, 0xcf], [0x0f, 0x33, 0x55, 0xff], [0xff, 0x33, 0x55, 0xff],
     [0x3f, 0x33, 0x65, 0xff]];
   const card = new Card(adapter, FONTS), latches = [0x0f, 0x33, 0x55, 0xff];
-  const set = (port, values) => values.forEach(([index, value]) => adapter.calls.zak_out_word(card.at, port,
+  const set = (port, values) => values.forEach(([index, value]) => adapter.calls.zak_out_word(card.address, port,
     index | value << 8));
-  card.write(0x3c2, 0xe3);
+  card.tryOut(0x3c2, 0xe3);
   set(0x3c4, [[4, 6]]);
   set(0x3ce, [[5, 0], [6, 5], [8, 255]]);
   latches.forEach((byte, plane) => {
     set(0x3c4, [[2, 1 << plane]]);
-    card.put(0xa0000, byte);
+    card.tryPut(0xa0000, byte);
   });
-  card.get(0xa0000);
+  card.tryGet(0xa0000);
   set(0x3c4, [[2, 15]]);
   set(0x3ce, [[0, 5], [1, 3], [3, 0x1b], [8, 0xf0]]);
   wanted.forEach((bytes, mode) => {

@@ -3,8 +3,8 @@
 // therefore has the colour of the adapter's own picture.
 import assert from "node:assert/strict";
 import test from "node:test";
-import { Card } from "../module/adapter.js";
-import { State, frameShape } from "../module/state.js";
+import { Card } from "../../javascript/zaklimot.js";
+import { State, frameShape } from "../run/state.js";
 import { addressOf } from "../explain/address.js";
 import { bytesOfDot, kindOf, pixelOf } from "../explain/dotrows.js";
 import { dotAhead, sourceAt } from "../explain/way.js";
@@ -70,7 +70,7 @@ const someLines = (random, { beam }) => {
 test(`dots of ${FRAMES} random frames have the colour that is told`, () => {
   const card = new Card(adapter, FONTS), random = new Random(3), first = card.save(), kinds = {};
   for (let time = 0; time < FRAMES; time++) {
-    card.restore([seasoned(stateOf(first, random, giver(random)), random)]);
+    card.restore(seasoned(stateOf(first, random, giver(random)), random));
     const state = State.of(card), picture = card.frameLines();
     const kind = kindOf(dotAhead(state, { line: 0, dot: 0 })?.source ?? { isText: 1 });
     kinds[kind] = (kinds[kind] ?? 0) + holdFrame(state, picture, someLines(random, state));
@@ -89,15 +89,15 @@ function disturb(card, random) {
       7: random.byte() & 0x10, 18: random.below(220), 20: random.byte() & 0x5f,
       23: 3 | random.byte() & 0x60 };
     const value = values[number] ?? random.byte();
-    calls.zak_out_word(card.at, 0x3d4, number | value << 8);
+    calls.zak_out_word(card.address, 0x3d4, number | value << 8);
   }
-  calls.zak_out_word(card.at, 0x3c4, 0x0001 | (random.below(2) | (random.below(9) ? 0 : 32)) << 8);
-  calls.zak_out(card.at, 0x3c6, random.below(2) ? 255 : random.byte());
+  calls.zak_out_word(card.address, 0x3c4, 0x0001 | (random.below(2) | (random.below(9) ? 0 : 32)) << 8);
+  calls.zak_out(card.address, 0x3c6, random.below(2) ? 255 : random.byte());
   const out = adapter.room("cycle", 16);
-  calls.zak_in(card.at, 0x3da, out.at);
-  calls.zak_out(card.at, 0x3c0, 16 + random.below(5));
-  calls.zak_out(card.at, 0x3c0, random.byte() & 0x3f);
-  if (random.below(3)) calls.zak_out(card.at, 0x3c0, 0x20);
+  calls.zak_in(card.address, 0x3da, out.at);
+  calls.zak_out(card.address, 0x3c0, 16 + random.below(5));
+  calls.zak_out(card.address, 0x3c0, random.byte() & 0x3f);
+  if (random.below(3)) calls.zak_out(card.address, 0x3c0, 0x20);
 }
 
 test("each dot of frames in which registers change has the colour of the state that drew it",
@@ -108,14 +108,14 @@ test("each dot of frames in which registers change has the colour of the state t
     const bytes = stateOf(first, random, giver(random));
     bytes[40] |= 3;
     bytes[41 + 17] &= 127;
-    card.restore([bytes]);
+    card.restore(bytes);
     for (let part = 0; part < 12; part++) {
       disturb(card, random);
       const state = State.of(card), picture = card.frameLines();
       dots += holdFrame(state, picture, someLines(random, state));
-      card.restore([state.bytes]);
+      card.restore(state.bytes);
       const { dots: line, lines } = frameShape(state.registers);
-      adapter.calls.zak_advance(card.at, random.below(Math.ceil(line * lines / 6)));
+      adapter.calls.zak_advance(card.address, random.below(Math.ceil(line * lines / 6)));
     }
   }
   console.log(`${dots} dots of frames that change`);
@@ -128,7 +128,7 @@ test("the bytes that a dot is made of, and no others, change what is told of it"
   let used = 0;
   for (let time = 0; time < 400; time++) {
     const bytes = seasoned(stateOf(first, random, giver(random)), random);
-    card.restore([bytes]);
+    card.restore(bytes);
     const state = State.of(card), made = dotAhead(state, { line: random.below(20), dot: random.below(40) });
     if (!made) continue;
     const { source, beam, registers } = made, plane = random.below(4);
@@ -137,7 +137,7 @@ test("the bytes that a dot is made of, and no others, change what is told of it"
       one.plane === plane && one.offset === offset && one.bits);
     const other = bytes.slice();
     other[894 + 65536 * plane + offset] ^= 255;
-    card.restore([other]);
+    card.restore(other);
     const isOther = differingParts(partsOfDot(source), partsOfDot(sourceAt(card, beam))).length > 0;
     if (!isUsed) assert.equal(isOther, false, JSON.stringify({ plane, offset, source }));
     else if (!source.isText) assert.equal(isOther, true, JSON.stringify({ plane, offset, source }));
@@ -151,13 +151,13 @@ test("the address of a byte leads there, and none does where none is told", () =
   const card = new Card(adapter, FONTS), random = new Random(11), first = card.save();
   let none = 0;
   for (let time = 0; time < 300; time++) {
-    card.restore([stateOf(first, random, () => random.byte(), false)]);
+    card.restore(stateOf(first, random, () => random.byte(), false));
     const state = State.of(card), plane = random.below(4), offset = random.below(65536);
     const address = addressOf(state, plane, offset);
-    adapter.calls.zak_out_word(card.at, 0x3c4, 0x0f02);
-    adapter.calls.zak_out_word(card.at, 0x3ce, 0xff08);
+    adapter.calls.zak_out_word(card.address, 0x3c4, 0x0f02);
+    adapter.calls.zak_out_word(card.address, 0x3ce, 0xff08);
     const reaches = at => {
-      const stages = card.writeStages(at, 0);
+      const stages = card.tryExplainPut(at, 0);
       return stages !== null && stages.offset === offset && (stages.planes >> plane & 1) === 1;
     };
     if (address !== null) assert.ok(reaches(address), JSON.stringify({ plane, offset, address }));

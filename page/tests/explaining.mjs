@@ -1,7 +1,7 @@
 // What the page says of dots, cycles and subjects, in words, and what the watch list keeps.
 import assert from "node:assert/strict";
 import test from "node:test";
-import { GROUPS } from "../module/registers.js";
+import { GROUPS } from "../script/registers.js";
 import { MOST_WATCHES, Watches } from "../explain/watches.js";
 import { Session } from "../run/session.js";
 import { dotOfSeen } from "../explain/dotsearch.js";

@@ -83,7 +83,7 @@ test("base64 of any length, and counts", () => {
 });
 
 test("what a file is", async () => {
-  const text = "int ax=3\nframe ; é\n", { bytes } = adapter.assembled(bytesOf(text));
+  const text = "int ax=3\nframe ; é\n", bytes = adapter.assemble(text);
   assert.deepEqual(await contentsOf(bytesOf(text), adapter), { text });
   assert.deepEqual(await contentsOf(gzipSync(text), adapter), { text });
   assert.deepEqual(await contentsOf(FONTS, adapter), { fonts: FONTS });
@@ -95,7 +95,7 @@ test("what a file is", async () => {
   const png = await pngOf(PICTURE);
   assert.deepEqual(await contentsOf(png, adapter), { png });
   for (const script of ["int ax=3\nframe\n", "in 3CC", "frame", "out 3C4 2", "show regs", "show cells\n"]) {
-    const { report } = adapter.run(adapter.assembled(bytesOf(script)).bytes, FONTS);
+    const report = adapter.run(script, { fonts: FONTS });
     const whole = new Uint8Array(report);
     assert.deepEqual(Object.keys(await contentsOf(whole, adapter)), ["report"], script);
   }

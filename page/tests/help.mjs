@@ -6,7 +6,7 @@ import { execFileSync } from "node:child_process";
 import { gunzipSync } from "node:zlib";
 import { readFileSync, readdirSync } from "node:fs";
 import { BLOCK_LINES, SHAPES, SHOWN } from "../script/grammar.js";
-import { GROUPS } from "../module/registers.js";
+import { GROUPS } from "../script/registers.js";
 import { PORTS } from "../help/ports.js";
 import { SERVICE_ANCHORS } from "../help/services.js";
 import { STEPS, stepOf } from "../help/steps.js";

@@ -1,7 +1,7 @@
 // The machine's picture on the canvas: its colours are the adapter's, and only rows that differ are painted.
 import assert from "node:assert/strict";
 import test from "node:test";
-import { WIDEST } from "../module/adapter.js";
+import { WIDEST } from "../../javascript/zaklimot.js";
 import { Machine } from "../machine/machine.js";
 import { LivePicture } from "../machine/livepicture.js";
 import { FONTS, machineParts } from "./loading.mjs";

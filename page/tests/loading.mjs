@@ -2,7 +2,7 @@
 // ZAKLIMOT_MODULE, a file of wasm, or else that of the page as built.
 import { mkdtempSync, readFileSync, readdirSync, rmSync } from "node:fs";
 import { tmpdir } from "node:os";
-import { Adapter } from "../module/adapter.js";
+import { Adapter } from "../run/adapter.js";
 import { TOP, moduleBytes } from "../../tools/zaklimot_tools/trace/parts.mjs";
 
 export { FONTS, PAGE, TOP, machineParts, moduleBytes, pageData }
@@ -17,7 +17,7 @@ export function pageStyle() {
 
 /** A new instance of the module. */
 export async function loadAdapter() {
-  return Adapter.opened(moduleBytes());
+  return Adapter.of(moduleBytes());
 }
 
 /** The number that LEB128 writes, and where it ends. */

@@ -8,7 +8,7 @@ import { tmpdir } from "node:os";
 import { dirname, join } from "node:path";
 import test from "node:test";
 import { Machine, SPEEDS } from "../machine/machine.js";
-import { Card, WIDEST } from "../module/adapter.js";
+import { Card, WIDEST } from "../../javascript/zaklimot.js";
 import { Recording, judgedRecording } from "../machine/recording.js";
 import { Session, judgedText } from "../run/session.js";
 import { bytesOfKey } from "../machine/pckeys.js";
@@ -427,7 +427,7 @@ test("the tutorial's program has the mistake that it tells of, and is mended as 
   const boxOf = program => {
     const machine = started({ program });
     machine.run(2 * SECOND);
-    card.restore([machine.savedState()]);
+    card.restore(machine.savedState());
     const planes = [0, 1, 2, 3].map(plane => card.plane(plane));
     const dots = offset => planes.reduce((sum, plane) => sum | plane[offset], 0);
     return Array.from({ length: 40 }, (_, line) => [dots(80 * line + 1), dots(80 * line + 7)]);

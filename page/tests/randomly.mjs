@@ -1,6 +1,6 @@
 // Random numbers that are the same each time, and random states of the adapter.
-import { GROUPS } from "../module/registers.js";
-import { HIGHEST } from "../module/adapter.js";
+import { GROUPS } from "../script/registers.js";
+import { HIGHEST } from "../../javascript/zaklimot.js";
 
 /** Random numbers from a seed: `below(n)`, `byte()`, `one(list)`. */
 export class Random {

@@ -2,8 +2,8 @@
 // of a state but for its BIOS data, and of a call.
 import assert from "node:assert/strict";
 import test from "node:test";
-import { State } from "../module/state.js";
-import { Card } from "../module/adapter.js";
+import { State } from "../run/state.js";
+import { Card } from "../../javascript/zaklimot.js";
 import { cyclesOfCall, cyclesTo, rebuildingLines } from "../machine/rebuilt.js";
 import { Session } from "../run/session.js";
 import { FONTS, loadAdapter, runWhole } from "./loading.mjs";
@@ -79,10 +79,10 @@ test("the cycles of a trace make a state but for its BIOS data, and tell what ea
 
 test("the cycles of a call make what the call leaves", () => {
   const card = new Card(adapter, FONTS), call = (ax, bx, cx, dx) =>
-    ({ registers: new Uint8Array(Uint16Array.of(ax, bx, cx, dx).buffer), block: new Uint8Array() });
+    ({ registers: { ax, bx, cx, dx }, block: new Uint8Array() });
   for (const [ax, bx, cx, dx] of [[0x0e41, 7, 0, 0], [0x0601, 0x1e00, 0, 0x184f], [0x1003, 0, 0, 0], [0x0200, 0, 0, 0x102]]) {
     const begin = savedAfter([...set(3), int(0x0e42, 7)]);
-    card.restore([new Uint8Array(begin)]);
+    card.restore(new Uint8Array(begin));
     const cycles = cyclesOfCall(State.of(card), call(ax, bx, cx, dx));
     const found = savedAfter([...set(3), int(0x0e42, 7), ...cycles.map(({ line }) => line)]);
     assert.ok(cycles.length > 0);

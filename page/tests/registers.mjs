@@ -3,7 +3,7 @@ import assert from "node:assert/strict";
 import test from "node:test";
 import { execFileSync } from "node:child_process";
 import { readFileSync, readdirSync } from "node:fs";
-import { GROUPS, bitsOf, fieldValue } from "../module/registers.js";
+import { GROUPS, bitsOf, fieldValue } from "../script/registers.js";
 import { SERVICE_ANCHORS } from "../help/services.js";
 import { TOP } from "./loading.mjs";
 

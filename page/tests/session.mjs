@@ -2,7 +2,7 @@
 // back.
 import assert from "node:assert/strict";
 import test from "node:test";
-import { Adapter } from "../module/adapter.js";
+import { Adapter } from "../run/adapter.js";
 import { Answers } from "../run/answers.js";
 import { Session, judgedText } from "../run/session.js";
 import { FONTS, examples, loadAdapter, moduleBytes, runWhole, withMemory } from "./loading.mjs";
@@ -44,7 +44,7 @@ test("an answer that differs from that of zak_run is found, and a picture too", 
 test("the length of the whole report is known without it", () => {
   const block = "version 2\nint ax=3\nrepeat 999\nin 3CC\nshow bda\nend\nframe";
   for (const text of ["", "in 3CC\n".repeat(12345), block]) {
-    const session = sessionOf(text), { report } = adapter.run(session.script, FONTS);
+    const session = sessionOf(text), report = adapter.run(session.script, { fonts: FONTS });
     assert.equal(session.reported, report.length);
     assert.equal(session.comparable.reported, report.length);
     assert.equal(session.compared(), "");
@@ -241,7 +241,7 @@ test("texts of 16 MiB of any kind are judged", () => {
 });
 
 test("where the module has no memory, it is told", async () => {
-  const small = await Adapter.opened(withMemory(moduleBytes(), 300));
+  const small = await Adapter.of(withMemory(moduleBytes(), 300));
   assert.throws(() => new Session(small, FONTS, "frame"), /no memory left/);
   assert.throws(() => judgedText(small, "frame\n".repeat(2700000)), /no memory left/);
   assert.equal(judgedText(small, "frame").outline.length, 1);

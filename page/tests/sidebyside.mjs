@@ -18,7 +18,7 @@ const SCRIPT = "int ax=3\nin 3CC\nputw B8000 1F41\nframe\nin 3C5\nputw B8002 1F4
 /** A run of the script: its report, and the picture after some steps. */
 function ran(text, steps) {
   const session = runWhole(new Session(adapter, FONTS, text));
-  const { report } = adapter.run(session.script, FONTS, session.reported);
+  const report = adapter.run(session.script, { fonts: FONTS, room: session.reported });
   session.seek(steps - 1);
   const { picture } = session.seen(steps);
   session.close();

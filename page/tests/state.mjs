@@ -5,7 +5,7 @@ import { Session } from "../run/session.js";
 import { changedPlanes } from "../run/changes.js";
 import { statusOne } from "../panels/registerpanel.js";
 import { charactersOf, displayedBeams, shownBytes } from "../explain/frame.js";
-import { State, characterWidth, dacEntry, frameShape, frameSpeed } from "../module/state.js";
+import { State, characterWidth, dacEntry, frameShape, frameSpeed } from "../run/state.js";
 import { partsOfSaved } from "./saved.mjs";
 import { Random, stateOf } from "./randomly.mjs";
 import { FONTS, examples, loadAdapter, runWhole } from "./loading.mjs";
@@ -15,8 +15,8 @@ const adapter = await loadAdapter();
 /** A struct that a call writes, as bytes. */
 function structOf(card, call, size, ...more) {
   const room = adapter.room("struct", 65536);
-  assert.equal(adapter.calls[call](card.at, ...more, room.at), 0);
-  return adapter.copied(room, size);
+  assert.equal(adapter.calls[call](card.address, ...more, room.at), 0);
+  return adapter.copied(room.at, size);
 }
 
 function registersOf(card) {
@@ -24,8 +24,8 @@ function registersOf(card) {
     bytes.slice(from, from + count);
   return { misc: bytes[0], seqIndex: bytes[1], seq: part(2, 5), crtcIndex: bytes[7], crtc: part(8, 25),
     gfxIndex: bytes[33],
-    gfx: part(34, 9), attrIndex: bytes[43], attrIsData: bytes[44], attr: part(45, 21), dacIndex: bytes[66],
-    dacComponent: bytes[67], dacMask: bytes[68], dacRed: bytes[69], dacGreen: bytes[70] };
+    gfx: part(34, 9), attrIndex: bytes[43], attrIsData: bytes[44] === 1, attr: part(45, 21), dacIndex: bytes[66],
+    dacComponent: bytes[67], dacMask: bytes[68], dacWaitingRed: bytes[69], dacWaitingGreen: bytes[70] };
 }
 
 function assertState(card) {
@@ -48,8 +48,8 @@ function assertState(card) {
     mode: bda.getUint8(28), page: bda.getUint8(29), lastRow: bda.getUint8(30) });
   for (let plane = 0; plane < 4; plane++) {
     const room = adapter.room("plane", 65536);
-    assert.equal(adapter.calls.zak_read_plane(card.at, plane, 0, room.at, 65536), 0);
-    assert.deepEqual(state.plane(plane), adapter.copied(room, 65536));
+    assert.equal(adapter.calls.zak_read_plane(card.address, plane, 0, room.at, 65536), 0);
+    assert.deepEqual(state.plane(plane), adapter.copied(room.at, 65536));
   }
 }
 
@@ -91,7 +91,7 @@ for (const [mode, [width, height, dots, lines]] of Object.entries(SHAPES)) {
 /** The picture that a frame shows from here on, without the card's going on. */
 function nextFrame(card) {
   const state = card.save(), { rgb } = card.frameLines();
-  card.restore([state]);
+  card.restore(state);
   return rgb;
 }
 
@@ -106,7 +106,7 @@ for (const mode of ["3", "D", "12", "13"]) {
       for (const plane of mode === "3" ? [1] : [0, 1, 2, 3]) {
         other[874 + 20 + 65536 * plane + offset] = mode === "3" ? 0x17 : 0xff;
       }
-      card.restore([other]);
+      card.restore(other);
       const isSame = Buffer.compare(nextFrame(card), plain) === 0;
       assert.equal(!isSame, shown[offset] === 1, `offset ${offset}`);
     }
@@ -174,8 +174,8 @@ function randomCards(count, seed) {
       (group === "misc" ? random.byte() & 0xf3 | random.below(2) << 2
         : random.byte() & (group === "crtc" &&
         at === 7 && random.below(2) ? 0 : 255)), false);
-    card.restore([bytes]);
-    adapter.calls.zak_advance(card.at, random.below(200000));
+    card.restore(bytes);
+    adapter.calls.zak_advance(card.address, random.below(200000));
     list.push(card.save());
   }
   return { session, card, random, list };
@@ -184,7 +184,7 @@ function randomCards(count, seed) {
 test("line, frame and rate of random registers are those that the module's clock tells", () => {
   const { session, card, list } = randomCards(300, 41);
   for (const bytes of list) {
-    card.restore([bytes]);
+    card.restore(bytes);
     const told = card.clock(), { registers } = State.of(card),
       { dots, lines } = frameShape(registers);
     const { dots: frame, rate } = frameSpeed(registers);
@@ -207,7 +207,7 @@ test("bytes that are shown by random registers, panned too, are those that chang
     bytes[78 + 21] = 0x20;
     bytes[101 + 772] = 255;
     for (let i = 0; i < 768; i++) bytes[101 + i] = i * 7 & 63;
-    card.restore([bytes]);
+    card.restore(bytes);
     const shown = shownBytes(State.of(card)), plain = nextFrame(card);
     for (let trial = 0; trial < 25; trial++) {
       const from = shown.indexOf(1, random.below(65536)),
@@ -216,7 +216,7 @@ test("bytes that are shown by random registers, panned too, are those that chang
       const offset = random.one([random.below(65536), from, past + random.below(3)]) & 65535;
       const other = bytes.slice();
       for (const plane of [0, 1, 2, 3]) other[894 + 65536 * plane + offset] = 255;
-      card.restore([other]);
+      card.restore(other);
       const isSame = Buffer.compare(nextFrame(card), plain) === 0;
       // A byte of which a part is beyond the picture's edges may show nothing.
       if (!isSame) assert.equal(shown[offset], 1, `offset ${offset}`);

@@ -5,7 +5,7 @@ import assert from "node:assert/strict";
 import { createHash } from "node:crypto";
 import test from "node:test";
 import { Machine } from "../machine/machine.js";
-import { WIDEST } from "../module/adapter.js";
+import { WIDEST } from "../../javascript/zaklimot.js";
 import { FONTS, machineParts } from "./loading.mjs";
 import { Random, hostileProgram, word } from "./hostile.mjs";
 

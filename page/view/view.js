@@ -1,5 +1,5 @@
 // The page: its parts, and what each hears of the others.
-import { Adapter } from "../module/adapter.js";
+import { Adapter } from "../run/adapter.js";
 import { Asking } from "../explain/asking.js";
 import { BiosPanel } from "../panels/biospanel.js";
 import { CallRoom } from "./callroom.js";
@@ -474,7 +474,7 @@ export class View {
   async #openAnew({ message }) {
     this.runner.close(true);
     this.#forget();
-    this.adapter = await Adapter.opened(this.module);
+    this.adapter = await Adapter.of(this.module);
     this.notice.tell(`The module has stopped (${message}). It is opened anew: change the script, ` +
       "and it runs again.");
   }

@@ -15,12 +15,15 @@ from unittest import mock
 from zaklimot_tools.core.processes import Done
 from zaklimot_tools.core.progress import Progress
 from zaklimot_tools.core.trouble import Wrong
-from zaklimot_tools.dev.page import command, editor, machine, making, page, sections
+from zaklimot_tools.dev.library.making import FONTS
+from zaklimot_tools.dev.page import command, editor, machine, making, package, page, sections
 from zaklimot_tools.dev.page.machine import MachineModules
 from zaklimot_tools.dev.page.making import check_module, kit_of, with_kit
 from zaklimot_tools.dev.page.packing import in_base64, packed, unzipped
 
-from .test_page import FRAME, NATIVE, Modules, module_of
+from zaklimot_tools.dev.page_tests import command as tests_command
+
+from .test_page import FRAME, MACHINE, NATIVE, Modules, module_of, small_sources
 from .tools import (
     EXAMPLES,
     Folder,
@@ -376,6 +379,66 @@ class Forms(Folder):
             self.assertEqual(call(main_of("vga-page"), "module", path)[0], 0)
         self.assertEqual(path.read_bytes(), RIGHT)
         self.assertEqual(asked, [(2 << 20, False, None), (None, False, None)])
+
+
+class Package(Folder):
+    """The files of the package for JavaScript that are made with the page."""
+
+    def setUp(self) -> None:
+        super().setUp()
+        self.page = self.folder / "page.html"
+        self.package = self.folder / "javascript"
+        self.package.mkdir()
+        self.module = self.write("module", with_kit(RIGHT, "kit 1"))
+        faked = {"read_sources": small_sources, "made_or_kept": lambda *_: MACHINE}
+        self.patch(
+            patched(command, {**faked, "PAGE": self.page}),
+            patched(page, {"programs": list}),
+            patched(package, {"FOLDER": self.package}),
+        )
+
+    def made(self, path: Path) -> str:
+        """What is told when a page is made around the module."""
+        status, output, errors = call(main_of("vga-page"), "make", path, "--module", self.module)
+        self.assertEqual((status, errors), (0, ""))
+        return output
+
+    def files(self) -> dict[str, bytes]:
+        return {path.name: path.read_bytes() for path in self.package.iterdir()}
+
+    def test_another_page_leaves_the_package_as_it_is(self) -> None:
+        self.assertNotIn("javascript/", self.made(self.folder / "other.html"))
+        self.assertEqual(self.files(), {})
+
+    def test_the_page_of_the_repository_has_the_package_s_module(self) -> None:
+        told = self.made(self.page)
+        self.assertIn("javascript/zaklimot.wasm: the page's own\n", told)
+        self.assertIn("javascript/zaklimot.fnt: the page's own\n", told)
+        module = Path(self.module).read_bytes()
+        wanted = {"zaklimot.wasm": module, "zaklimot.fnt": FONTS.read_bytes()}
+        self.assertEqual(self.files(), wanted)
+        built = self.page.read_bytes()
+        self.assertEqual(
+            tests_command.check_package(built), "the module in javascript/ is the page's"
+        )
+        # What is there is not written again, so the package's own file may be the module.
+        self.module = str(self.package / "zaklimot.wasm")
+        self.assertNotIn("javascript/zaklimot.wasm: the page's", self.made(self.page))
+        for name in wanted:
+            (self.package / name).write_bytes(b"other")
+            told = refused(tests_command.check_package, built)
+            self.assertIn(f"javascript/{name}: it is not the one of page/zaklimot.html", told)
+            (self.package / name).unlink()
+            self.assertEqual(refused(tests_command.check_package, built), told)
+            (self.package / name).write_bytes(wanted[name])
+
+    def test_no_source_of_the_package_is_written(self) -> None:
+        entry = Path(self.write("javascript/zaklimot.js", "const a = 1;\n"))
+        source = Path(self.write("javascript/src/card.js", "const b = 2;\n"))
+        for path in (entry, source):
+            done = call(main_of("vga-page"), "make", path, "--module", self.module)
+            self.assertIn("it is read as", done[2])
+            self.assertEqual(done[0], 2)
 
 
 # A text with each kind of block.

@@ -9,7 +9,7 @@ import { bytesOfKey } from "../../../page/machine/pckeys.js";
 import { isSavedRun, savedRunOf } from "../../../page/machine/savedrun.js";
 import { filesBeside, softwareIn, softwareOf } from "../../../page/machine/software.js";
 import { filesOfZip, isZip } from "../../../page/machine/zip.js";
-import { WIDEST } from "../../../page/module/adapter.js";
+import { WIDEST } from "../../../javascript/zaklimot.js";
 import { FONTS, machineParts } from "./parts.mjs";
 
 const SECOND = 1e9;

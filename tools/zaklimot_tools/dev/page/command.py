@@ -4,6 +4,7 @@ from __future__ import annotations
 
 import argparse
 import sys
+from pathlib import Path
 from typing import Optional
 
 from zaklimot_tools.core.files import STANDARD
@@ -13,6 +14,7 @@ from zaklimot_tools.report.debugging import PAGE
 
 from .machine import made_or_kept
 from .making import MOST_MODULE, check_module, made_module
+from .package import FOLDER, write_files
 from .page import make_page, protect_sources, read_sources, wordings_module
 
 
@@ -36,7 +38,7 @@ def _write(path: str, data: bytes, told: str) -> None:
 
 
 def make(words: argparse.Namespace, progress: Progress) -> None:
-    """Makes the page."""
+    """Makes the page, and with that of the repository the module of the package for JavaScript."""
     protect_sources()
     module = _given_module(words)
     # What is wrong with the sources is told before the long work.
@@ -46,6 +48,9 @@ def make(words: argparse.Namespace, progress: Progress) -> None:
         module = made_module(words, progress)
     page = make_page(module, sources, machine)
     _write(words.file, page, f"{len(page):,} bytes; its module has {check_module(module)}")
+    if words.file != STANDARD and Path(words.file).resolve() == PAGE:
+        for name in write_files(module):
+            print(f"{FOLDER.name}/{name}: the page's own")
 
 
 def make_module(words: argparse.Namespace, progress: Progress) -> None:

@@ -22,6 +22,7 @@ from zaklimot_tools.dev.library.making import FONTS
 from zaklimot_tools.explain.wordings import WORDINGS
 from zaklimot_tools.report.debugging import DOCS, PAGE, data_element
 
+from . import package
 from .editor import Editor, joined_editor
 from .machine import NOTICE, MachineModules, programs
 from .packing import about, in_base64, packed
@@ -41,6 +42,9 @@ ENTRY = "main.js"
 FIRST_STYLE = "style.css"
 TESTS = "tests"
 ESBUILD = "esbuild"
+# A script that is joined lies beside no files of the package, so the package reads none: esbuild
+# leaves out what would.
+NOWHERE = "--define:import.meta.url=null"
 # The editor's parts in a page as built.
 EDITOR = tuple(
     re.compile(form, re.S)
@@ -87,6 +91,7 @@ def joined(folder: Path) -> str:
                 "--format=esm",
                 f"--target={TARGETS}",
                 "--charset=utf8",
+                NOWHERE,
                 f"--outfile={made}",
                 f"--metafile={listed}",
                 "--log-level=warning",
@@ -124,6 +129,7 @@ def protect_sources(folder: Path = SOURCES) -> None:
         folder / "index.html",
         *folder.rglob("*.js"),
         *folder.rglob("*.css"),
+        *package.sources(),
         *EXAMPLES.glob("*.vga"),
     ]
     for path in sources:

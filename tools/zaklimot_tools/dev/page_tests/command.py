@@ -32,6 +32,7 @@ from zaklimot_tools.dev.library_tests.compilers import make_check, run
 from zaklimot_tools.dev.page.machine import is_of_this_compiler, machine_in, made_machine
 from zaklimot_tools.dev.page.making import MOST_MODULE, check_module, kit_of, made_modules
 from zaklimot_tools.dev.page.packing import unzipped
+from zaklimot_tools.dev.page.package import FOLDER, others
 from zaklimot_tools.dev.page.page import data_of, editor_in, page_text, read_sources
 from zaklimot_tools.dev.page.words import MOST_BYTES
 from zaklimot_tools.report.cases import Case, read_cases
@@ -208,8 +209,19 @@ def run_node(
     return run([*node_words(), *words], seconds=seconds, environment=environment)
 
 
+def check_package(page: bytes) -> str:
+    """The module of the package for JavaScript is the one that a page has, and its font the
+    repository's."""
+    wrong = others(module_in(page))
+    if wrong:
+        named = " and ".join(f"{FOLDER.name}/{name}" for name in wrong)
+        raise Wrong(f"{named}: it is not the one of {NAME}: {ANEW}")
+    return f"the module in {FOLDER.name}/ is the page's"
+
+
 def _check_page(module: bytes, page: bytes, folder: Path) -> str:
-    return "; ".join((check_built(module, page), check_syntax(page, folder), check_machine(page)))
+    told = (check_built(module, page), check_package(page), check_syntax(page, folder))
+    return "; ".join((*told, check_machine(page)))
 
 
 def check_syntax(page: bytes, folder: Path) -> str:

@@ -3,10 +3,9 @@
 // What differs is told, and how many cases each way has run.
 import { createHash } from "node:crypto";
 import { readFileSync } from "node:fs";
-import { Adapter, CARD_SIZE } from "../../../../page/module/adapter.js";
+import { Library, STATUS } from "../../../../javascript/zaklimot.js";
 import { FAULT_NAMES } from "../../../../page/script/faults.js";
 
-const OK = 0, FONT_SIZE = 22, BAD_LINE = 107;
 const WITH_PLACE = [104, 105, 107, 111];
 const ALL = 0xFFFFFFFF;
 const SLICES = [7, 1];
@@ -41,67 +40,42 @@ function difference(bytes, wanted) {
 
 /** A fault as the program prints it. */
 function faultLine(status, place) {
-  const name = status === FONT_SIZE ? "F1 FontSize" : FAULT_NAMES[status] ?? `status ${status}`;
+  const name = status === STATUS.FONT_SIZE ? "F1 FontSize" : FAULT_NAMES[status] ?? `status ${status}`;
   return new TextEncoder().encode(name + (WITH_PLACE.includes(status) ? `(${place})` : "") + "\n");
 }
 
-/** The bytes of a text, or the line of its fault. */
-function assembled(adapter, text) {
-  const given = adapter.given("text", text), told = adapter.lengths.at;
-  const { status, bytes } = adapter.written("script", 1024, room =>
-    adapter.calls.zak_assemble(given.at, given.length, room.at, room.length, told, told + 8));
-  const line = status === BAD_LINE ? adapter.number(1) : 0;
-  return { bytes, fault: status === OK ? null : faultLine(status, line) };
+/** What work answers, or the line of the fault that it throws. */
+function answered(work) {
+  try {
+    return { bytes: work(), fault: null };
+  } catch (error) {
+    if (!error.status) throw error;
+    return { bytes: null, fault: faultLine(error.status, error.place ?? 0) };
+  }
 }
 
 /** The report of a whole run, or the line of its fault. */
-function byRun(adapter, script, fonts) {
-  const { status, report, place } = adapter.run(script, fonts);
-  return status === OK ? report : faultLine(status, place);
-}
-
-/** A card of the module, whose steps are taken slice by slice. */
-class SlicedCard {
-  constructor(adapter, script, fonts) {
-    const { calls } = adapter, font = adapter.given("fonts", fonts);
-    this.adapter = adapter;
-    this.at = adapter.taken(CARD_SIZE);
-    adapter.bytes.fill(0, this.at, this.at + CARD_SIZE);
-    this.opened = calls.zak_open(this.at, font.at, font.length);
-    this.given = adapter.given("steps", script);
-  }
-
-  close() {
-    if (this.opened === OK) this.adapter.calls.zak_close(this.at);
-    this.adapter.calls.page_give(this.at);
-  }
-
-  /** Takes so many steps after the first ones: { status, place, taken, report }. */
-  take(first, most, size) {
-    const { adapter, given } = this, report = adapter.room("answers", size), told = adapter.lengths.at;
-    const status = adapter.calls.zak_run_on(this.at, given.at, given.length, first, most,
-      report.at, report.length, told, told + 8, told + 16);
-    const length = status === OK ? adapter.number(0) : 0;
-    const bytes = adapter.bytes.subarray(report.at, report.at + length);
-    return { status, place: adapter.number(2), taken: adapter.number(1), report: bytes };
-  }
+function byRun(library, script, fonts) {
+  const { bytes, fault } = answered(() => library.run(script, { fonts }));
+  return bytes ?? fault;
 }
 
 /** The length and the sum of the report of a script that is run slice by slice, and how many steps it has. */
-function bySlices(adapter, script, fonts, slice, size) {
-  const card = new SlicedCard(adapter, script, fonts), hash = createHash("sha256");
+function bySlices(library, script, fonts, slice, size) {
+  const hash = createHash("sha256"), { bytes: card, fault } = answered(() => library.open(fonts));
+  if (fault) return { steps: 0, ...sumOf(fault) };
   try {
-    if (card.opened !== OK) return { steps: 0, ...sumOf(faultLine(card.opened, 0)) };
     let steps = 0, length = 0, taken = slice;
     const parts = [];
     while (taken === slice) {
-      const told = card.take(steps, slice, size);
-      if (told.status !== OK) return { steps, ...sumOf(faultLine(told.status, told.place)) };
-      hash.update(told.report);
-      if (length < MOST_KEPT) parts.push(told.report.slice());
-      ({ taken } = told);
+      const told = answered(() => card.runOn(script, { first: steps, most: slice, room: size }));
+      if (told.fault) return { steps, ...sumOf(told.fault) };
+      const { report } = told.bytes;
+      hash.update(report);
+      if (length < MOST_KEPT) parts.push(report);
+      ({ taken } = told.bytes);
       steps += taken;
-      length += told.report.length;
+      length += report.length;
     }
     return { steps, length, sha256: hash.digest("hex"), bytes: Buffer.concat(parts) };
   } finally {
@@ -116,7 +90,7 @@ class Suite {
   }
 
   async open() {
-    this.adapter = await Adapter.opened(this.module);
+    this.library = await Library.of(this.module);
   }
 
   /** Holds what a way answers to what is expected: its length and its sum. */
@@ -146,12 +120,12 @@ class Suite {
   async run(one) {
     const given = file(one.script), fonts = file(one.fonts);
     const whole = { bytes: given, fault: null };
-    const made = one.isBytes ? whole : await this.guarded(one, "text", () => assembled(this.adapter, given));
+    const made = one.isBytes ? whole : await this.guarded(one, "text", () => answered(() => this.library.assemble(given)));
     if (!made) return;
     const { bytes: script, fault } = made;
     if (!one.isBytes) await this.runText(one, script, fault, fonts);
     if (fault) return;
-    await this.hold(one, "bytes", one, () => sumOf(byRun(this.adapter, script, fonts)));
+    await this.hold(one, "bytes", one, () => sumOf(byRun(this.library, script, fonts)));
     await this.runSlices(one, script, fonts);
   }
 
@@ -161,15 +135,15 @@ class Suite {
     await this.hold(one, "text to bytes", wanted, () => sumOf(fault ?? script));
     if (fault) return;
     const printed = sumOf(file(one.printed));
-    await this.hold(one, "bytes to text", printed, () => sumOf(this.adapter.printed(script).text));
-    await this.hold(one, "text", one, () => sumOf(byRun(this.adapter, script, fonts)));
+    await this.hold(one, "bytes to text", printed, () => sumOf(new TextEncoder().encode(this.library.print(script))));
+    await this.hold(one, "text", one, () => sumOf(byRun(this.library, script, fonts)));
   }
 
   /** The steps all at once, and in slices of few; those of long scripts in eighths. */
   async runSlices(one, script, fonts) {
     let steps = ALL;
     await this.hold(one, "steps, all at once", one, () => {
-      const answer = bySlices(this.adapter, script, fonts, ALL, one.length + MARGIN);
+      const answer = bySlices(this.library, script, fonts, ALL, one.length + MARGIN);
       ({ steps } = answer);
       return answer;
     });
@@ -177,7 +151,7 @@ class Suite {
     const slices = SLICES.filter(isShort).map(slice => [slice, `steps, ${slice} at a time`]);
     if (slices.length < SLICES.length) slices.push([Math.ceil(steps / 8), "steps, an eighth at a time"]);
     for (const [slice, way] of slices) {
-      await this.hold(one, way, one, () => bySlices(this.adapter, script, fonts, slice, one.length + MARGIN));
+      await this.hold(one, way, one, () => bySlices(this.library, script, fonts, slice, one.length + MARGIN));
     }
   }
 }

@@ -1,6 +1,6 @@
 // The registers by name, kept bits and fields, as docs/REGISTERS.md has them:
 // page/tests/registers.mjs compares the two.
-import { WORDINGS } from "../script/wordings.js";
+import { WORDINGS } from "./wordings.js";
 
 const fieldOf = ([bits, name, stored]) => ({ bits, name, isStored: stored !== undefined });
 const registerOf = ({ name, kept, fields }) =>

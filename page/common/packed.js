@@ -1,5 +1,5 @@
 // What the page is given: the module, the fonts, the examples, and parts of the documentation.
-import { bytesOfBase64, throughStream } from "../common/bytes.js";
+import { bytesOfBase64, throughStream } from "./bytes.js";
 
 const MOST_UNPACKED = 1 << 26;
 

@@ -1,8 +1,10 @@
 // The state of a card: what the module's readers tell of it, and its saved bytes, in which planes,
 // the DAC and the dots drawn so far stand (docs/STATE.md); and what follows from registers.
 // page/tests/state.mjs holds each of them to the module's own calls.
-import { Card, FIRST_STATE, HIGHEST, PLANE_LENGTH } from "./adapter.js";
+import { FIRST_STATE, HIGHEST, PLANE_SIZE } from "../../javascript/zaklimot.js";
 
+/** So many bytes before a state make its planes begin at multiples of four. */
+const AHEAD = 2;
 const AT = { dac: 101, planes: 894, drawn: 263038 };
 // The clocks that bits 3 and 2 of miscellaneous output select, in dots a second.
 const CLOCKS = { 0: 25175000, 1: 28322000 };
@@ -17,8 +19,21 @@ const asked = new WeakMap();
 
 /** Opens the card that is asked about states of a module, unless it is open. */
 export function openAsked(adapter, fonts) {
-  if (!asked.has(adapter)) asked.set(adapter, { card: new Card(adapter, fonts), state: null });
+  if (!asked.has(adapter)) asked.set(adapter, { card: adapter.open(fonts), state: null });
   return asked.get(adapter);
+}
+
+/** A copy of a card's saved bytes, in which planes begin at multiples of four. */
+export function savedBytes(card) {
+  const saved = card.saveView(), bytes = new Uint8Array(new ArrayBuffer(saved.length + AHEAD), AHEAD);
+  bytes.set(saved);
+  return bytes;
+}
+
+/** The BIOS data of a card, by the names that the page has for them. */
+export function biosDataOf(card) {
+  const { cursorPlaces, cursorType: type, crtcAddress: crtc, ...others } = card.biosData();
+  return { ...others, places: Array.from(cursorPlaces), type, crtc };
 }
 
 /** A state, by name. */
@@ -28,21 +43,21 @@ export class State {
   /** The state of a card as it is. */
   static of(card) {
     const { rows, ...beam } = card.beam();
-    return new State(card.save(), { registers: card.registers(), latches: card.latches(), beam,
-      bda: card.bda() }, card);
+    return new State(savedBytes(card), { registers: card.registers(), latches: card.latches(), beam,
+      bda: biosDataOf(card) }, card);
   }
 
   /**
    * The saved bytes, the registers, latches, beam and BIOS data that a card tells, and `home`, the
-   * card's { adapter, fonts }.
+   * card's { library, fonts }.
    */
-  constructor(bytes, { registers, latches, beam, bda }, { adapter, fonts }) {
+  constructor(bytes, { registers, latches, beam, bda }, { library, fonts }) {
     this.bytes = bytes;
     this.registers = registers;
     this.latches = latches;
     this.beam = beam;
     this.bda = bda;
-    this.#home = { adapter, fonts };
+    this.#home = { library, fonts };
   }
 
   /**
@@ -50,11 +65,10 @@ export class State {
    * is this state's until another one is asked.
    */
   get card() {
-    const { adapter, fonts } = this.#home;
-    const found = openAsked(adapter, fonts);
+    const { library, fonts } = this.#home, found = openAsked(library, fonts);
     if (found.state === this) return found.card;
     found.state = null;
-    found.card.restore([this.bytes]);
+    found.card.restore(this.bytes);
     found.state = this;
     return found.card;
   }
@@ -62,7 +76,7 @@ export class State {
   /** The same card, for steps: whoever asks next brings it back. */
   get scratch() {
     const { card } = this;
-    openAsked(this.#home.adapter).state = null;
+    openAsked(this.#home.library).state = null;
     return card;
   }
 
@@ -71,7 +85,7 @@ export class State {
   }
 
   plane(number) {
-    return this.part(AT.planes + PLANE_LENGTH * number, PLANE_LENGTH);
+    return this.part(AT.planes + PLANE_SIZE * number, PLANE_SIZE);
   }
 
   /** The DAC: the reds of its 256 entries, then the greens, then the blues, 0 to 63 each. */
