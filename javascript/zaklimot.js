@@ -3,7 +3,8 @@
 //
 // SPDX-License-Identifier: MIT
 export { Card } from "./src/card.js";
-export { Library, load } from "./src/library.js";
+export { Library } from "./src/library.js";
+export { load } from "./loading.js";
 export { Closed, OutOfMemory, Refusal, ScriptError, StateError, ZaklimotError } from "./src/errors.js";
 export * from "./src/statuses.js";
 export { STRUCTS, fieldReader, placeInStruct, readStruct, sizeOfStruct, writeStruct } from "./src/structs.js";

@@ -2,7 +2,7 @@
 import { BYTE, LONG } from "./opened.js";
 import { StateCard } from "./states.js";
 import { inRange } from "./errors.js";
-import { load } from "./library.js";
+import { load } from "../loading.js";
 import { MOST_REASON_TEXT, MOST_RGB, STATUS } from "./statuses.js";
 import { sizeOfStruct, writeStruct } from "./structs.js";
 

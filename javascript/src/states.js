@@ -116,19 +116,19 @@ export class StateCard extends FrameCard {
   }
 
   restore(...parts) {
-    const given = this.library.given("restored", ...parts.map(part => bytesOf("the state's bytes", part)));
+    const given = this.library.given("state", ...parts.map(part => bytesOf("the state's bytes", part)));
     this._check(this._calls.zak_restore(this._address, given.at, given.length));
   }
 
   saveFixed(length) {
     inRange("length", length, 0xFFFFFFFF);
-    const { library } = this, room = library.room("fixed", this.isOpen ? Math.max(1, length) : 1);
+    const { library } = this, room = library.room("state", this.isOpen ? Math.max(1, length) : 1);
     this._check(this._calls.zak_save_fixed(this._address, room.at, length));
     return library.copied(room.at, length);
   }
 
   restoreFixed(state) {
-    const given = this.library.given("restored", bytesOf("the state's bytes", state));
+    const given = this.library.given("state", bytesOf("the state's bytes", state));
     this._check(this._calls.zak_restore_fixed(this._address, given.at, given.length));
   }
 }

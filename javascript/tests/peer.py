@@ -11,7 +11,6 @@ import sys
 from typing import Any, Callable, Optional
 
 import zaklimot
-from zaklimot._errors import error_of
 from zaklimot._library import loaded
 from zaklimot._structs import SIZE, U8
 from ctypes import byref
@@ -150,9 +149,7 @@ class Peer:
         if reason is None:
             return None
         numbers = [*reason.numbers.values(), 0, 0, 0, 0, 0][:5]
-        return [
-            reason.refusal.number, int(reason.why), numbers, int(reason.is_high), reason.text
-        ]
+        return [reason.refusal.number, int(reason.why), numbers, int(reason.is_high), reason.text]
 
     def explainDot(self, which: int) -> Any:
         beam = self.beams[which % len(self.beams)] if which >= 0 else None
@@ -195,15 +192,37 @@ def damaged(state: bytes, damage: int) -> bytes:
 
 # Calls that both packages have under names of their own.
 SAME = {
-    "out": "out", "outWord": "out_word", "in": "inp", "inWord": "inp_word", "put": "put",
-    "putWord": "put_word", "get": "get", "getWord": "get_word", "fillBytes": "fill",
-    "getBytes": "get_bytes", "moveBytes": "move", "advance": "advance",
-    "skipFrame": "skip_frame", "registers": "registers", "colour": "colour",
-    "latches": "latches", "plane": "plane", "screen": "screen", "cell": "cell",
-    "pixel": "pixel", "cursor": "cursor", "showRegs": "show_regs", "showBeam": "show_beam",
-    "showLatches": "show_latches", "showBda": "show_bda", "showCells": "show_cells",
-    "showDac": "show_dac", "showPlane": "show_plane", "saveSize": "save_size",
-    "explainPut": "explain_put", "explainGet": "explain_get",
+    "out": "out",
+    "outWord": "out_word",
+    "in": "inp",
+    "inWord": "inp_word",
+    "put": "put",
+    "putWord": "put_word",
+    "get": "get",
+    "getWord": "get_word",
+    "fillBytes": "fill",
+    "getBytes": "get_bytes",
+    "moveBytes": "move",
+    "advance": "advance",
+    "skipFrame": "skip_frame",
+    "registers": "registers",
+    "colour": "colour",
+    "latches": "latches",
+    "plane": "plane",
+    "screen": "screen",
+    "cell": "cell",
+    "pixel": "pixel",
+    "cursor": "cursor",
+    "showRegs": "show_regs",
+    "showBeam": "show_beam",
+    "showLatches": "show_latches",
+    "showBda": "show_bda",
+    "showCells": "show_cells",
+    "showDac": "show_dac",
+    "showPlane": "show_plane",
+    "saveSize": "save_size",
+    "explainPut": "explain_put",
+    "explainGet": "explain_get",
 }
 
 

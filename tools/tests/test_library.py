@@ -26,14 +26,14 @@ from zaklimot_tools.core.version import (
 )
 from zaklimot_tools.dev.library import making
 from zaklimot_tools.dev.library.making import AARCH64, MOVING, TARGETS, X86_64, Place, described
-from zaklimot_tools.dev.library_tests import bindings, checks, compilers, portable
+from zaklimot_tools.dev.library_tests import bindings, checks, compilers, javascript, portable
 from zaklimot_tools.dev.library_tests.compilers import run
 from zaklimot_tools.dev.release import command as release
 from zaklimot_tools.report.cases import read_cases
 from zaklimot_tools.report.places import SUITE
 from zaklimot_tools.script import crates
 
-from .tools import Folder, call, ended, hold_undone, main_of, patched, refused
+from .tools import Folder, call, ended, hold, hold_undone, main_of, patched, refused
 
 
 TEXT = HEADER.read_text("ascii")
@@ -302,6 +302,33 @@ class Bindings(Folder):
         self.assertEqual(
             list(bindings.programs_of_page()), [f"program_{number}" for number in range(5)]
         )
+
+    def test_what_is_wrong_in_node(self) -> None:
+        right = "\u2139 pass 9\n\u2139 fail 0\n\u2139 skipped {}\n\u2139 todo 0\n"
+        skipped = "\ufe63 a test (1ms) # {}\n"
+        lacking = "tsc is not here: install Debian's package node-typescript"
+        hold(
+            self,
+            self.told_by_node,
+            (
+                (right.format(0), "9 tests"),
+                (skipped.format(lacking) + right.format(1), f"9 tests; {lacking}"),
+            ),
+        )
+        for said in (
+            right.format(0).replace("pass 9", "pass 0"),
+            right.format(0).replace("fail 0", "fail 1"),
+            right.format(0).replace("todo 0", "todo 1"),
+            skipped.format("no library is found") + right.format(1),
+            right.format(1),
+            "",
+        ):
+            self.assertRaisesRegex(Wrong, "^the tests in node: ", self.told_by_node, said)
+
+    def told_by_node(self, said: str) -> str:
+        """What is told of the package for JavaScript where node says this of its tests."""
+        with patched(javascript, {"run_node": lambda *_: said}):
+            return javascript.check_javascript(TOP, TOP)
 
     def test_libraries_and_their_kinds(self) -> None:
         library = Path(self.write("kit/lib/libzaklimot.so", ""))

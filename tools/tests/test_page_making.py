@@ -23,7 +23,15 @@ from zaklimot_tools.dev.page.packing import in_base64, packed, unzipped
 
 from zaklimot_tools.dev.page_tests import command as tests_command
 
-from .test_page import FRAME, MACHINE, NATIVE, Modules, module_of, small_sources
+from .test_page import (
+    FRAME,
+    MACHINE,
+    NATIVE,
+    Modules,
+    module_of,
+    needs_esbuild,
+    small_sources,
+)
 from .tools import (
     EXAMPLES,
     Folder,
@@ -394,7 +402,7 @@ class Package(Folder):
         self.patch(
             patched(command, {**faked, "PAGE": self.page}),
             patched(page, {"programs": list}),
-            patched(package, {"FOLDER": self.package}),
+            patched(package, {"FOLDER": self.package, "EXAMPLES": self.folder / "web"}),
         )
 
     def made(self, path: Path) -> str:
@@ -412,25 +420,52 @@ class Package(Folder):
 
     def test_the_page_of_the_repository_has_the_package_s_module(self) -> None:
         told = self.made(self.page)
-        self.assertIn("javascript/zaklimot.wasm: the page's own\n", told)
-        self.assertIn("javascript/zaklimot.fnt: the page's own\n", told)
+        self.assertIn("javascript/zaklimot.wasm: made with the page\n", told)
+        self.assertIn("javascript/zaklimot.fnt: made with the page\n", told)
         module = Path(self.module).read_bytes()
         wanted = {"zaklimot.wasm": module, "zaklimot.fnt": FONTS.read_bytes()}
         self.assertEqual(self.files(), wanted)
         built = self.page.read_bytes()
         self.assertEqual(
-            tests_command.check_package(built), "the module in javascript/ is the page's"
+            tests_command.check_package(built), "so are the files that are made with it"
         )
         # What is there is not written again, so the package's own file may be the module.
         self.module = str(self.package / "zaklimot.wasm")
-        self.assertNotIn("javascript/zaklimot.wasm: the page's", self.made(self.page))
+        self.assertNotIn("javascript/zaklimot.wasm", self.made(self.page))
         for name in wanted:
             (self.package / name).write_bytes(b"other")
             told = refused(tests_command.check_package, built)
-            self.assertIn(f"javascript/{name}: it is not the one of page/zaklimot.html", told)
+            self.assertIn(f"javascript/{name}: this is not what is made with page/zakl", told)
             (self.package / name).unlink()
             self.assertEqual(refused(tests_command.check_package, built), told)
             (self.package / name).write_bytes(wanted[name])
+
+    @needs_esbuild
+    def test_an_example_of_one_file_carries_the_module(self) -> None:
+        front, behind = "<p>\u00e9</p>\n", "<p></p>\n"
+        script = 'import { a } from "../javascript/a.js";\nawait a("\u00e9", globalThis.carried);\n'
+        self.write("javascript/a.js", "export const a = (...words) => console.log(...words);\n")
+        example = f'{front}<script type="module">\n{script}</script>\n{behind}'
+        self.write("web/one.html", example.encode("utf-8"))
+        self.assertIn("web/one-one-file.html: made with the page\n", self.made(self.page))
+        made = self.folder / "web" / "one-one-file.html"
+        text = made.read_text("utf-8")
+        self.assertTrue(
+            text.startswith(f"{front}<script>\n") and text.endswith(f"</script>\n{behind}")
+        )
+        self.assertNotIn("import", text)
+        module = in_base64(Path(self.module).read_bytes())
+        self.assertIn(f'module: bytes("{module}")', text)
+        # The page that is made is none of which another is made, and it is held to its source.
+        self.assertNotIn("web/", self.made(self.page))
+        built = self.page.read_bytes()
+        self.write("web/one.html", example.replace("await a", "await (0, a)").encode("utf-8"))
+        told = refused(tests_command.check_package, built)
+        self.assertIn("web/one-one-file.html: this is not what is made with", told)
+        self.write("web/one.html", front.encode("utf-8"))
+        self.assertIn("it has no script that is a module", refused(package.made_files, b""))
+        self.write("web/one.html", example.replace("a.js", "b.js").encode("utf-8"))
+        self.assertIn('Could not resolve "../javascript/b.js"', refused(package.made_files, b""))
 
     def test_no_source_of_the_package_is_written(self) -> None:
         entry = Path(self.write("javascript/zaklimot.js", "const a = 1;\n"))

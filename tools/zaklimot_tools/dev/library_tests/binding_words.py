@@ -9,7 +9,7 @@ from zaklimot_tools.core.cli import later
 from zaklimot_tools.dev.words import add_checks
 
 
-CHECKS = ("python", "rust", "rust-examples", "lints", "pages", "crate", "cmake")
+CHECKS = ("python", "rust", "javascript", "rust-examples", "lints", "pages", "crate", "cmake")
 # What jobs of the command line are functions of.
 _job = partial(later, "zaklimot_tools.dev.library_tests.bindings")
 
@@ -17,7 +17,7 @@ _job = partial(later, "zaklimot_tools.dev.library_tests.bindings")
 def _parser() -> argparse.ArgumentParser:
     parser = cli.tool_parser(
         "vga-bindings-tests",
-        "Tests the packages for Python and Rust.",
+        "Tests the packages for Python, Rust and JavaScript.",
         "tools/vga-bindings-tests --library kit --only python",
         "docs/LIBRARY-TESTS.md",
         cli.JUDGES,

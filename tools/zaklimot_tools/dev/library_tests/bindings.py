@@ -1,6 +1,6 @@
 """The tests of the packages, over the proved library and over the portable one.
 
-For Python: its own tests. For Rust: the crates' tests, examples, lints and pages.
+For Python and JavaScript: their own tests. For Rust: the crates' tests, examples, lints and pages.
 """
 
 from __future__ import annotations
@@ -27,6 +27,7 @@ from zaklimot_tools.script.crates import phases
 
 from .checks import PRINTED, REPORT, TEXT
 from .compilers import laid_library, make_check, not_there, run
+from .javascript import check_javascript
 from .portable import check_cmake, check_crate, portable_library
 
 
@@ -90,7 +91,18 @@ RUNS = (
 # Within so many seconds such a run ends.
 SOON = 60
 # The programs that the tests need of this machine. Clippy is one of cargo's.
-PROGRAMS = ("python3", "cargo", "rustc", "rustdoc", "cargo-clippy", "ld", "objcopy", "ar", "cc")
+PROGRAMS = (
+    "python3",
+    "cargo",
+    "rustc",
+    "rustdoc",
+    "cargo-clippy",
+    "ld",
+    "objcopy",
+    "ar",
+    "cc",
+    "node",
+)
 
 
 def check_python(library: Path, _: Path) -> str:
@@ -229,7 +241,11 @@ def _check_crate(_: Path, folder: Path) -> str:
 
 # Each check gets the folder of the library, and one for what it makes. The first are made with
 # each library.
-EACH: dict[str, Callable[[Path, Path], str]] = {"python": check_python, "rust": check_rust}
+EACH: dict[str, Callable[[Path, Path], str]] = {
+    "python": check_python,
+    "rust": check_rust,
+    "javascript": lambda library, _: check_javascript(library, PACKAGE / "src"),
+}
 CHECKS: dict[str, Callable[[Path, Path], str]] = {
     **EACH,
     "rust-examples": check_rust_examples,

@@ -14,7 +14,7 @@ from zaklimot_tools.report.debugging import PAGE
 
 from .machine import made_or_kept
 from .making import MOST_MODULE, check_module, made_module
-from .package import FOLDER, write_files
+from .package import write_files
 from .page import make_page, protect_sources, read_sources, wordings_module
 
 
@@ -38,7 +38,7 @@ def _write(path: str, data: bytes, told: str) -> None:
 
 
 def make(words: argparse.Namespace, progress: Progress) -> None:
-    """Makes the page, and with that of the repository the module of the package for JavaScript."""
+    """Makes the page, and with that of the repository what else has its module."""
     protect_sources()
     module = _given_module(words)
     # What is wrong with the sources is told before the long work.
@@ -50,7 +50,7 @@ def make(words: argparse.Namespace, progress: Progress) -> None:
     _write(words.file, page, f"{len(page):,} bytes; its module has {check_module(module)}")
     if words.file != STANDARD and Path(words.file).resolve() == PAGE:
         for name in write_files(module):
-            print(f"{FOLDER.name}/{name}: the page's own")
+            print(f"{name}: made with the page")
 
 
 def make_module(words: argparse.Namespace, progress: Progress) -> None:

@@ -32,7 +32,7 @@ from zaklimot_tools.dev.library_tests.compilers import make_check, run
 from zaklimot_tools.dev.page.machine import is_of_this_compiler, machine_in, made_machine
 from zaklimot_tools.dev.page.making import MOST_MODULE, check_module, kit_of, made_modules
 from zaklimot_tools.dev.page.packing import unzipped
-from zaklimot_tools.dev.page.package import FOLDER, others
+from zaklimot_tools.dev.page.package import others
 from zaklimot_tools.dev.page.page import data_of, editor_in, page_text, read_sources
 from zaklimot_tools.dev.page.words import MOST_BYTES
 from zaklimot_tools.report.cases import Case, read_cases
@@ -210,13 +210,11 @@ def run_node(
 
 
 def check_package(page: bytes) -> str:
-    """The module of the package for JavaScript is the one that a page has, and its font the
-    repository's."""
+    """The package for JavaScript, and the examples of one file, have the module of a page."""
     wrong = others(module_in(page))
     if wrong:
-        named = " and ".join(f"{FOLDER.name}/{name}" for name in wrong)
-        raise Wrong(f"{named}: it is not the one of {NAME}: {ANEW}")
-    return f"the module in {FOLDER.name}/ is the page's"
+        raise Wrong(f"{' and '.join(wrong)}: this is not what is made with {NAME}: {ANEW}")
+    return "so are the files that are made with it"
 
 
 def _check_page(module: bytes, page: bytes, folder: Path) -> str:

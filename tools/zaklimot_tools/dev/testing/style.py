@@ -13,7 +13,7 @@ from zaklimot_tools.core.trouble import AGREED as PASSED, DIFFERED as FAILED, Tr
 
 # The folders that have Python, and the settings of all but flake8, which finds its own. The package
 # for Python has settings for its types.
-FOLDERS = ("tools", "bindings", "bench", "examples", "fonts")
+FOLDERS = ("tools", "bindings", "javascript", "bench", "examples", "fonts")
 SETTINGS = "tools/pyproject.toml"
 BINDINGS = "bindings/python/pyproject.toml"
 # Debian's programs lie here. Others of these names, as pip installs them, may judge otherwise.
