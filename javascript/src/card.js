@@ -5,6 +5,7 @@ import { inRange } from "./errors.js";
 import { load } from "../loading.js";
 import { MOST_REASON_TEXT, MOST_RGB, STATUS } from "./statuses.js";
 import { sizeOfStruct, writeStruct } from "./structs.js";
+import { ANSWER } from "./rooms.js";
 
 /** Room for the report of one step, and for a script that rebuilds a state. */
 const STEP_ROOM = MOST_RGB + 100, FIRST_REBUILT = 1 << 16;
@@ -41,7 +42,7 @@ export class Card extends StateCard {
   /** Takes steps whose report has so much room; an error tells how much it needs. */
   #slice(code, first, most, size) {
     const { library } = this, given = library.given("steps", code), { lengths } = library;
-    const report = library.room("report", Math.max(1, size));
+    const report = library.room(ANSWER, Math.max(1, size));
     const status = this._calls.zak_run_on(this._address, given.at, given.length, first, most,
       report.at, report.length, lengths, lengths + 8, lengths + 16);
     const numbers = [0, 1, 2].map(which => library.number(which));

@@ -149,7 +149,14 @@ export class CycleCard extends OpenCard {
   // The clock.
 
   clock() {
-    return this._read("zak_timing", "zak_clock");
+    const { library } = this, at = library.struct;
+    this._check(this._calls.zak_clock(this._address, at));
+    // A loop asks for it again and again, so it is read field by field.
+    const { view } = library;
+    return { toFrame: view.getUint32(at, true), toDisplay: view.getUint32(at + 4, true),
+      toRetrace: view.getUint32(at + 8, true), lineDots: view.getUint32(at + 12, true),
+      frameDots: view.getUint32(at + 16, true), lines: view.getUint32(at + 20, true),
+      rate: view.getUint32(at + 24, true), rateDivisor: view.getUint32(at + 28, true) };
   }
 
   // The video BIOS.

@@ -3,6 +3,7 @@ import { CycleCard } from "./cycles.js";
 import { bytesOf } from "./errors.js";
 import { HIGHEST, MOST_RGB, ONCE, OPAQUE, WIDEST } from "./statuses.js";
 import { readStruct, sizeOfStruct } from "./structs.js";
+import { ANSWER } from "./rooms.js";
 
 /** Bytes of the words of any picture. */
 const MOST_WORDS = 4 * WIDEST * HIGHEST;
@@ -57,7 +58,7 @@ export class FrameCard extends CycleCard {
   #form = -1;
 
   /** The words in the module's memory that calls write pictures into. */
-  _words(at = this.library.room("pixels", MOST_WORDS).at) {
+  _words(at = this.library.room(ANSWER, MOST_WORDS).at) {
     return new Uint32Array(this.library.calls.memory.buffer, at, MOST_WORDS / 4);
   }
 
@@ -76,7 +77,7 @@ export class FrameCard extends CycleCard {
 
   /** Draws a frame into words of the module's memory: its size; null where it is refused. */
   #drawn(form) {
-    const { library } = this, { at } = library.room("pixels", MOST_WORDS), { struct } = library;
+    const { library } = this, { at } = library.room(ANSWER, MOST_WORDS), { struct } = library;
     this.status = this._calls.zak_frame_words(this._address, form, struct, at, MOST_WORDS / 4, PITCH);
     return this.status ? null : library.told("zak_picture");
   }
@@ -107,21 +108,21 @@ export class FrameCard extends CycleCard {
   }
 
   frameXrgb() {
-    const { library } = this, { at } = library.room("pixels", MOST_WORDS), { struct } = library;
+    const { library } = this, { at } = library.room(ANSWER, MOST_WORDS), { struct } = library;
     this._check(this._calls.zak_frame_xrgb(this._address, struct, at, MOST_WORDS / 4, PITCH));
     const size = library.told("zak_size");
     return { ...size, pitch: PITCH, words: this._words().subarray(0, PITCH * size.height) };
   }
 
   frameRgb() {
-    const { library } = this, room = library.room("rgb", MOST_RGB);
+    const { library } = this, room = library.room(ANSWER, MOST_RGB);
     this._check(this._calls.zak_frame(this._address, library.struct, room.at, room.length));
     const size = library.told("zak_size"), { bytes } = library;
     return { ...size, rgb: bytes.subarray(room.at, room.at + 3 * size.width * size.height) };
   }
 
   frameIndexed() {
-    const { library } = this, numbers = library.room("pixels", MOST_WORDS), { struct } = library;
+    const { library } = this, numbers = library.room(ANSWER, MOST_WORDS), { struct } = library;
     const palette = library.room("palette", sizeOfStruct("zak_palette"));
     this._check(this._calls.zak_frame_indexed(this._address, struct, palette.at, numbers.at, numbers.length));
     const size = library.told("zak_size"), { view, bytes } = library;
@@ -131,7 +132,7 @@ export class FrameCard extends CycleCard {
   }
 
   line({ opaque = false } = {}) {
-    const { library } = this, { at } = library.room("pixels", MOST_WORDS), { struct } = library;
+    const { library } = this, { at } = library.room(ANSWER, MOST_WORDS), { struct } = library;
     this._check(this._calls.zak_line(this._address, formOf({ once: false, opaque }), struct, at, WIDEST));
     const told = library.told("zak_scan_line");
     return { ...told, words: this._words().subarray(0, told.width) };
@@ -148,7 +149,7 @@ export class FrameCard extends CycleCard {
   /** The dots of a frame line by line, written into bytes that are given if they are as many. */
   #lines(call, into) {
     const { library } = this, spare = into && bytesOf("bytes", into);
-    const widths = library.room("widths", 4 * HIGHEST), rgb = library.room("rgb", MOST_RGB);
+    const widths = library.room("widths", 4 * HIGHEST), rgb = library.room(ANSWER, MOST_RGB);
     this._check(this._calls[call](this._address, widths.at, rgb.at, rgb.length, library.lengths));
     const length = library.number(0), dots = spare?.length === length ? spare : new Uint8Array(length);
     dots.set(library.bytes.subarray(rgb.at, rgb.at + length));

@@ -4,6 +4,7 @@ import { Card } from "./card.js";
 import { bytesOf, errorOf, inRange } from "./errors.js";
 import { readStruct } from "./structs.js";
 import { API_VERSION, CARD_SIZE, FONTS_SIZE, MOST_MISTAKE_TEXT, MOST_STATUS_TEXT, STATUS } from "./statuses.js";
+import { ANSWER } from "./rooms.js";
 
 /** The room for what a call writes whose length nobody knows before, and for a report. */
 const FIRST_ROOM = 1 << 12, FIRST_REPORT = 1 << 20;
@@ -212,7 +213,7 @@ export class Library {
     const [code, glyphs] = [this.scriptOf(script), this.fontsOf(fonts)].map(bytes => this.outside(bytes));
     const { at, length } = this.given("steps", code), font = this.given("fonts", glyphs), { lengths } = this;
     inRange("room", room, 0xFFFFFFFF);
-    return this.written("report", Math.max(1, room), place => this.calls.zak_run(at, length, font.at, font.length,
+    return this.written(ANSWER, Math.max(1, room), place => this.calls.zak_run(at, length, font.at, font.length,
       place.at, place.length, lengths, lengths + 8));
   }
 

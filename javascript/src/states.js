@@ -3,6 +3,7 @@ import { BYTE, WORD } from "./opened.js";
 import { FrameCard } from "./frames.js";
 import { bytesOf, inRange } from "./errors.js";
 import { MOST_STATE, PLANE_SIZE, STATUS } from "./statuses.js";
+import { ANSWER } from "./rooms.js";
 
 /** A card that tells its state. */
 export class StateCard extends FrameCard {
@@ -110,25 +111,25 @@ export class StateCard extends FrameCard {
   }
 
   saveView() {
-    const { library } = this, room = library.room("state", MOST_STATE);
+    const { library } = this, room = library.room(ANSWER, MOST_STATE);
     this._check(this._calls.zak_save(this._address, room.at, room.length, library.lengths));
     return library.bytes.subarray(room.at, room.at + library.number(0));
   }
 
   restore(...parts) {
-    const given = this.library.given("state", ...parts.map(part => bytesOf("the state's bytes", part)));
+    const given = this.library.given(ANSWER, ...parts.map(part => bytesOf("the state's bytes", part)));
     this._check(this._calls.zak_restore(this._address, given.at, given.length));
   }
 
   saveFixed(length) {
     inRange("length", length, 0xFFFFFFFF);
-    const { library } = this, room = library.room("state", this.isOpen ? Math.max(1, length) : 1);
+    const { library } = this, room = library.room(ANSWER, this.isOpen ? Math.max(1, length) : 1);
     this._check(this._calls.zak_save_fixed(this._address, room.at, length));
     return library.copied(room.at, length);
   }
 
   restoreFixed(state) {
-    const given = this.library.given("state", bytesOf("the state's bytes", state));
+    const given = this.library.given(ANSWER, bytesOf("the state's bytes", state));
     this._check(this._calls.zak_restore_fixed(this._address, given.at, given.length));
   }
 }

@@ -185,8 +185,9 @@ test("what is refused has its error, and changes nothing", () => {
   card.close();
 });
 
-test("a report with less room than it needs says so; without a room it is as long as it is", () => {
-  const card = opened(), twice = "int ax=3\nframe\nframe\nframe\nframe\nframe\nframe\nframe\nframe\nframe";
+test("a report with less room than it needs says so; without a room it is as long as it is", async () => {
+  // A library of its own, whose memory has no longer room from before.
+  const card = (await load({})).open(), twice = "int ax=3\nframe\nframe\nframe\nframe\nframe\nframe\nframe\nframe\nframe";
   assert.throws(() => card.runOn(twice, { room: 100 }), { status: STATUS.NO_ROOM });
   const next = opened(), { report, taken } = next.runOn(twice);
   assert.equal(taken, 10);

@@ -9,7 +9,7 @@ test("memory above two GiB is used as that below", async () => {
   // Nothing writes into these blocks, so the system gives them no memory.
   const held = [0, 1].map(() => adapter.take(2 ** 30));
   const all = examples().slice(0, 3), told = await checkedExamples(adapter, FONTS, all);
-  const { at } = adapter.room("report", 1);
+  const { at } = adapter.room("answer", 1);
   assert.ok(at > 2 ** 31, `the answers are at ${at}`);
   assert.deepEqual([told.agree, told.differ], [all.length, 0], told.lines.join("\n"));
   for (const block of held) adapter.give(block);
