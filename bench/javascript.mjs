@@ -23,7 +23,8 @@ globalThis.told = load({ module, fonts }).then(library => measured(library, cont
 
 /** The rows as Chromium measures them, in a page of one file; null where it is not here. */
 async function inChromium(folder) {
-  const words = ["--bundle", "--format=esm", "--loader:.wasm=binary", "--loader:.fnt=binary", "--define:import.meta.url=null"];
+  const words = ["--bundle", "--format=esm", "--loader:.wasm=binary", "--loader:.fnt=binary",
+    "--define:import.meta.url=null"];
   const script = execFileSync("esbuild", words, { cwd: TOP, input: SCRIPT, maxBuffer: 1 << 26, encoding: "utf-8" });
   const page = join(folder, "page.html");
   writeFileSync(page, `<!DOCTYPE html>\n<meta charset="utf-8">\n<canvas id="screen" width="640" height="400"></canvas>

@@ -48,7 +48,8 @@ const ROWS = [
     card.tryAdvance(25) | card.tryPut(0xA0000 + (i & 0x7FFF), i & 255)],
   ["`clock`", MODE_13, "clock", card => () => card.clock()],
   ["`putBytes`, 64,000 bytes", MODE_13, "put_bytes", (card, bytes) => () => card.putBytes(0xA0000, bytes)],
-  ["`getBytes`, 64,000 bytes into a buffer", MODE_13, "get_bytes", (card, bytes) => () => card.getBytes(0xA0000, bytes)],
+  ["`getBytes`, 64,000 bytes into a buffer", MODE_13, "get_bytes", (card, bytes) => () =>
+    card.getBytes(0xA0000, bytes)],
   ["`runOn`, a write of a script of 1,000", MODE_13, "", card => {
     const script = scriptOfPuts(PUTS);
     return () => card.runOn(script, { room: 16 * PUTS });

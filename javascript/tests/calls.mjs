@@ -192,7 +192,8 @@ function answersOfPeer(list) {
 /** Whether the package for Python finds a library. */
 function whyNone() {
   const done = spawnSync(PYTHON, ["-B", "-c", "import zaklimot; zaklimot.library()"], { encoding: "utf-8" });
-  return done.status === 0 ? false : `no library is found by the package for Python: ${(done.stderr ?? "").trim().split("\n").at(-1)}`;
+  const last = (done.stderr ?? "").trim().split("\n").at(-1);
+  return done.status === 0 ? false : `no library is found by the package for Python: ${last}`;
 }
 
 test("random calls answer what the C library answers", { skip: whyNone() }, async () => {

@@ -16,11 +16,12 @@ const types = read("zaklimot.d.ts").replace(/\/\*[^]*?\*\//g, "");
 /** A library whose calls are counted, by their names. */
 async function countingLibrary() {
   const counts = new Set(), { calls, fonts } = await load();
-  const exports = Object.fromEntries(Object.entries(calls).map(([name, call]) => [name, typeof call !== "function" ? call
-    : (...words) => {
-      counts.add(name);
-      return call(...words);
-    }]));
+  const counting = (name, call) => (...words) => {
+    counts.add(name);
+    return call(...words);
+  };
+  const exports = Object.fromEntries(Object.entries(calls).map(([name, call]) =>
+    [name, typeof call === "function" ? counting(name, call) : call]));
   return { library: new Library({ exports }, fonts), counts };
 }
 
@@ -35,9 +36,10 @@ const USES = {
   frameWords: [], tryFrameUpdate: [], frameUpdate: [], frameXrgb: [], frameRgb: [], frameIndexed: [], line: [],
   frameLines: [], peek: [], skipFrame: [], registers: [], colour: [1], beam: [], latches: [], biosData: [],
   plane: [0], screen: [], cell: [0, 0], pixel: [0, 0], cursor: [], showRegs: [], showBeam: [], showLatches: [],
-  showBda: [], showCells: [], showDac: [1], showPlane: [0, 0, 1], saveSize: [], save: [], saveInto: [new Uint8Array(300000)],
-  saveView: [], restore: [], saveFixed: [7342978], restoreFixed: [], runOn: ["in 3DA"], explainStep: ["frame"],
-  explainDot: [], tryExplainDot: [], explainPut: [0xA0000, 1], tryExplainPut: [0xA0000, 1], explainGet: [0xA0000],
+  showBda: [], showCells: [], showDac: [1], showPlane: [0, 0, 1], saveSize: [], save: [],
+  saveInto: [new Uint8Array(300000)], saveView: [], restore: [], saveFixed: [7342978], restoreFixed: [],
+  runOn: ["in 3DA"], explainStep: ["frame"], explainDot: [], tryExplainDot: [], explainPut: [0xA0000, 1],
+  tryExplainPut: [0xA0000, 1], explainGet: [0xA0000],
   tryExplainGet: [0xA0000], rebuild: [],
 };
 /** Of text and of graphics: the mode in which a method does something. */
@@ -110,7 +112,8 @@ function fieldsOf(name) {
 }
 
 test("the structs have the fields of the header", { skip: !header && "the header is not here" }, () => {
-  const all = [...bare.matchAll(/typedef struct (\w+) \{/g)].map(([, name]) => name).filter(name => name !== "zak_card");
+  const all = [...bare.matchAll(/typedef struct (\w+) \{/g)].map(([, name]) => name)
+    .filter(name => name !== "zak_card");
   assert.deepEqual(Object.keys(STRUCTS).sort(), all.sort());
   for (const [name, fields] of Object.entries(STRUCTS)) {
     assert.deepEqual(fields.map(one => [one.name, one.bytes, one.count]), fieldsOf(name), name);
@@ -126,16 +129,22 @@ test("the numbers are the header's", { skip: !header && "the header is not here"
   const listed = [...bare.matchAll(/\b(ZAK_\w+) = (\d+)/g)].map(([, name, number]) => [name, Number(number)]);
   const others = Object.values(groups).slice(1);
   for (const [group, front] of Object.entries(groups)) {
-    const wanted = listed.filter(([name]) => group === "STATUS" ? !others.some(one => name.startsWith(one)) : name.startsWith(front));
-    assert.deepEqual(zaklimot[group], Object.fromEntries(wanted.map(([name, number]) => [name.slice(front.length), number])));
+    const isOther = name => group === "STATUS" && others.some(one => name.startsWith(one));
+    const wanted = listed.filter(([name]) => name.startsWith(front) && !isOther(name))
+      .map(([name, number]) => [name.slice(front.length), number]);
+    assert.deepEqual(zaklimot[group], Object.fromEntries(wanted));
   }
-  const defined = Object.fromEntries([...bare.matchAll(/^#define ZAK_(\w+) +(.+?) *$/gm)].map(([, name, text]) => [name, text]));
-  const valueOf = text => Number(new Function(`return ${text.replace(/ZAK_(\w+)/g, (_, one) => `(${valueOf(defined[one])})`)
-    .replace(/\b(0x[0-9A-F]+|\d+)u\b/g, "$1")}`)());
-  const own = ["FONTS_SIZE", "MOST_DOTS", "NEVER", "WIDEST", "HIGHEST", "MOST_RGB", "MOST_TABLE", "MOST_TEXT", "MOST_STATUS_TEXT",
-    "MOST_REASON_TEXT", "MOST_MISTAKE_TEXT", "OPAQUE", "ONCE", "FIRST_STATE", "MOST_STATE", "API_VERSION"];
-  assert.deepEqual(Object.keys(defined).filter(name => !own.includes(name)), ["CARD_INIT", "API_MAJOR", "API_MINOR"]
-    .sort((a, b) => Object.keys(defined).indexOf(a) - Object.keys(defined).indexOf(b)));
+  const defined = Object.fromEntries([...bare.matchAll(/^#define ZAK_(\w+) +(.+?) *$/gm)]
+    .map(([, name, text]) => [name, text]));
+  const valueOf = text => {
+    const others = text.replace(/ZAK_(\w+)/g, (_, one) => `(${valueOf(defined[one])})`);
+    return Number(new Function(`return ${others.replace(/\b(0x[0-9A-F]+|\d+)u\b/g, "$1")}`)());
+  };
+  const own = ["FONTS_SIZE", "MOST_DOTS", "NEVER", "WIDEST", "HIGHEST", "MOST_RGB", "MOST_TABLE", "MOST_TEXT",
+    "MOST_STATUS_TEXT", "MOST_REASON_TEXT", "MOST_MISTAKE_TEXT", "OPAQUE", "ONCE", "FIRST_STATE",
+    "MOST_STATE", "API_VERSION"];
+  const left = Object.keys(defined).filter(name => !own.includes(name));
+  assert.deepEqual(left.sort(), ["API_MAJOR", "API_MINOR", "CARD_INIT"]);
   for (const name of own) assert.equal(zaklimot[name], valueOf(defined[name]), name);
   const { version } = JSON.parse(read("package.json"));
   assert.equal(version, `${valueOf(defined.API_MAJOR)}.${valueOf(defined.API_MINOR)}.0`);

@@ -164,9 +164,12 @@ test("what is refused has its error, and changes nothing", () => {
     [() => card.restore(before.subarray(1)), StateError, "STATE_MAGIC"],
     [() => card.restore(before, new Uint8Array(1)), StateError, "STATE_LENGTH"],
     [() => card.restoreFixed(new Uint8Array(300000)), StateError, "STATE_CHECKSUM"],
-    [() => card.saveFixed(5), ZaklimotError, "NO_ROOM"], [() => card.saveInto(new Uint8Array(5)), ZaklimotError, "NO_ROOM"],
-    [() => library.assemble("frame\nfrme"), ScriptError, "BAD_LINE"], [() => library.print(new Uint8Array(3)), ScriptError, "BAD_MAGIC"],
-    [() => card.runOn("frame\nfrme"), ScriptError, "BAD_LINE"], [() => library.open(new Uint8Array(3)), ZaklimotError, "FONT_SIZE"],
+    [() => card.saveFixed(5), ZaklimotError, "NO_ROOM"],
+    [() => card.saveInto(new Uint8Array(5)), ZaklimotError, "NO_ROOM"],
+    [() => library.assemble("frame\nfrme"), ScriptError, "BAD_LINE"],
+    [() => library.print(new Uint8Array(3)), ScriptError, "BAD_MAGIC"],
+    [() => card.runOn("frame\nfrme"), ScriptError, "BAD_LINE"],
+    [() => library.open(new Uint8Array(3)), ZaklimotError, "FONT_SIZE"],
     [() => card.explainStep("frame", 1), ZaklimotError, "BAD_ARGUMENT"],
   ]) {
     assert.throws(work, error => {
@@ -187,7 +190,7 @@ test("what is refused has its error, and changes nothing", () => {
 
 test("a report with less room than it needs says so; without a room it is as long as it is", async () => {
   // A library of its own, whose memory has no longer room from before.
-  const card = (await load({})).open(), twice = "int ax=3\nframe\nframe\nframe\nframe\nframe\nframe\nframe\nframe\nframe";
+  const card = (await load({})).open(), twice = `int ax=3${"\nframe".repeat(9)}`;
   assert.throws(() => card.runOn(twice, { room: 100 }), { status: STATUS.NO_ROOM });
   const next = opened(), { report, taken } = next.runOn(twice);
   assert.equal(taken, 10);

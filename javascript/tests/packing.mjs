@@ -11,12 +11,14 @@ const HERE = fileURLToPath(new URL("..", import.meta.url)), MOST_TIME = 120_000;
 const readme = readFileSync(join(HERE, "README.md"), "utf-8");
 const [, FIRST] = readme.match(/^```js\n(import [^]*?)^```$/m);
 const WANTED = "320 200\n255,255,255,255\n";
-const FILES = ["LICENSE", "README.md", "loading.js", "package.json", ...readdirSync(join(HERE, "src")).map(name => `src/${name}`),
-  "zaklimot.d.ts", "zaklimot.fnt", "zaklimot.js", "zaklimot.wasm"];
+const FILES = ["LICENSE", "README.md", "loading.js", "package.json",
+  ...readdirSync(join(HERE, "src")).map(name => `src/${name}`), "zaklimot.d.ts", "zaklimot.fnt",
+  "zaklimot.js", "zaklimot.wasm"];
 
-const lacks = program => spawnSync(program, ["--version"]).error ? `${program} is not here: install Debian's package ${program}` : false;
-const run = (program, words, folder) => execFileSync(program, words, { cwd: folder, encoding: "utf-8", timeout: MOST_TIME,
-  stdio: ["ignore", "pipe", "pipe"] });
+const lacks = program => spawnSync(program, ["--version"]).error ?
+  `${program} is not here: install Debian's package ${program}` : false;
+const run = (program, words, folder) => execFileSync(program, words,
+  { cwd: folder, encoding: "utf-8", timeout: MOST_TIME, stdio: ["ignore", "pipe", "pipe"] });
 
 /** Does something in a folder of its own. */
 function inFolder(does) {
@@ -33,7 +35,7 @@ function installed(folder) {
   for (const name of FILES) cpSync(join(HERE, name), join(folder, "node_modules", "zaklimot", name));
 }
 
-test("npm packs what a user needs, and installs it in an empty folder", { skip: lacks("npm") }, () => inFolder(folder => {
+test("npm packs what a user needs, and installs it", { skip: lacks("npm") }, () => inFolder(folder => {
   const [told] = JSON.parse(run("npm", ["pack", HERE, "--json", "--pack-destination", folder], folder));
   assert.deepEqual(told.files.map(({ path }) => path).sort(), FILES.sort());
   const empty = join(folder, "empty");
@@ -56,24 +58,27 @@ test("a folder that is copied needs no tool: its one file is imported", () => in
   assert.equal(run(process.execPath, ["first.mjs"], folder), WANTED);
 }));
 
-test("esbuild makes one file of a program, the module and the font", { skip: lacks("esbuild") }, () => inFolder(folder => {
+test("esbuild makes one file of it all", { skip: lacks("esbuild") }, () => inFolder(folder => {
   installed(folder);
-  const program = FIRST.replace(/^import .*\n/, 'import { load } from "zaklimot";\nimport module from "zaklimot/zaklimot.wasm";\n' +
-    'import fonts from "zaklimot/zaklimot.fnt";\n').replace("await Card.open()", "(await load({ module, fonts })).open()");
-  writeFileSync(join(folder, "app.js"), `(async () => {\n${program.replace(/^(import .*\n)+/, "")}\n})();`);
-  const imports = program.match(/^(import .*\n)+/)[0];
-  writeFileSync(join(folder, "app.js"), imports + readFileSync(join(folder, "app.js"), "utf-8"));
+  const imports = `import { load } from "zaklimot";\nimport module from "zaklimot/zaklimot.wasm";
+import fonts from "zaklimot/zaklimot.fnt";\n`;
+  const program = FIRST.replace(/^import .*\n/, "")
+    .replace("await Card.open()", "(await load({ module, fonts })).open()");
+  writeFileSync(join(folder, "app.js"), `${imports}(async () => {\n${program}\n})();`);
   const [, words] = readme.match(/`esbuild (app\.js [^`]*)`/);
   run("esbuild", [...words.split(/\s+/), "--outfile=one.js", "--log-level=warning"], folder);
   rmSync(join(folder, "node_modules"), { recursive: true });
   assert.equal(run(process.execPath, ["one.js"], folder), WANTED);
 }));
 
-test("esbuild and rollup make bundles that find the two files beside them", { skip: lacks("esbuild") || lacks("rollup") }, () =>
+const skip = lacks("esbuild") || lacks("rollup");
+
+test("esbuild and rollup make bundles that find the two files beside them", { skip }, () =>
   inFolder(folder => {
     installed(folder);
     writeFileSync(join(folder, "app.js"), FIRST.replace('"zaklimot"', '"./node_modules/zaklimot/zaklimot.js"'));
-    run("esbuild", ["app.js", "--bundle", "--format=esm", "--outfile=by-esbuild/app.mjs", "--log-level=warning"], folder);
+    const words = ["--bundle", "--format=esm", "--outfile=by-esbuild/app.mjs", "--log-level=warning"];
+    run("esbuild", ["app.js", ...words], folder);
     run("rollup", ["app.js", "--format", "es", "--file", "by-rollup/app.mjs", "--silent"], folder);
     for (const made of ["by-esbuild", "by-rollup"]) {
       for (const name of ["zaklimot.wasm", "zaklimot.fnt"]) cpSync(join(HERE, name), join(folder, made, name));

@@ -10,8 +10,8 @@ const PORTS = [0x3C0, 0x3C1, 0x3C2, 0x3C3, 0x3C6, 0x3C7, 0x3C8, 0x3C9, 0x3CA, 0x
 const TEXTS = ["frame", "put A0000 41", "get B8000", "in 3DA", "out 3C4 2", "int ax=3", "int ax=13", "show regs",
   "show beam", "advance 1000", "outw 3C4 0F02", "putw A1234 BEEF", "advance FFFFFFF", "int ax=4", "out 3C7 1",
   "int ax=E41", "show cells", "in 123", "out 3D4 99", "inw 3C4", "getw BFFFF"];
-const BAD_TEXTS = ["frme", "out 0x3C4 2", "put A0000", "int zz=3", "out 3C4 2 4", "int ax=3\nfoo", "é", "int ax=3 {1", "show it",
-  "version 3", "repeat 2\nframe", "// frame", "int ax=3\n  get é"];
+const BAD_TEXTS = ["frme", "out 0x3C4 2", "put A0000", "int zz=3", "out 3C4 2 4", "int ax=3\nfoo", "é", "int ax=3 {1",
+  "show it", "version 3", "repeat 2\nframe", "// frame", "int ax=3\n  get é"];
 
 const address = random => random.rarely(20) ? random.next() : 0xA0000 + random.below(0x20000);
 const port = random => random.rarely(20) ? random.word() : random.one([...INDEXED.map(([at]) => at),
@@ -24,7 +24,8 @@ const maybeBad = random => random.rarely(3) ? `${text(random)}\n${random.one(BAD
 /** The registers of a call of the video BIOS, and its block. */
 function call(random) {
   const ah = random.rarely(15) ? random.byte() : random.one(FUNCTIONS);
-  const al = ah === 0 ? random.one(MODES) | (random.rarely(4) ? 0x80 : 0) : random.rarely(3) ? random.byte() : random.below(24);
+  const ofMode = () => random.one(MODES) | (random.rarely(4) ? 0x80 : 0);
+  const al = ah === 0 ? ofMode() : random.rarely(3) ? random.byte() : random.below(24);
   const small = () => random.rarely(3) ? random.word() : random.below(25) << 8 | random.below(40);
   const registers = [ah << 8 | al, small(), random.rarely(2) ? random.below(40) : small(), small()];
   return [registers, bytes(random, random.one([0, 0, 16, 17, 24, 48, 768]))];
@@ -103,7 +104,8 @@ const CALLS = {
 };
 
 /** Calls that may lead away from a plain screen, which is what programs see that use the BIOS alone. */
-const STIRRING = ["out", "outWord", "put", "putWord", "putBytes", "fillBytes", "moveBytes", "restore", "restoreFixed", "runOn"];
+const STIRRING = ["out", "outWord", "put", "putWord", "putBytes", "fillBytes", "moveBytes", "restore",
+  "restoreFixed", "runOn"];
 const BAG = Object.entries(CALLS).flatMap(([name, [often]]) => Array(often).fill(name));
 const CALM_BAG = BAG.filter(name => !STIRRING.includes(name));
 

@@ -5,7 +5,8 @@ import test from "node:test";
 import { existsSync, readFileSync } from "node:fs";
 import { load } from "../zaklimot.js";
 
-const FOLDER = new URL("../../examples/web/", import.meta.url), skip = !existsSync(FOLDER) && "the examples are not here";
+const FOLDER = new URL("../../examples/web/", import.meta.url);
+const skip = !existsSync(FOLDER) && "the examples are not here";
 const text = name => readFileSync(new URL(name, FOLDER), "utf-8");
 const FRAMES = 30, FRAME_TIME = 1000 / 70.086;
 
@@ -45,10 +46,11 @@ async function run(script, page, carried) {
 
 for (const name of ["plasma.html", "plasma-one-file.html"]) {
   test(`${name} draws frames, 70 a second`, { skip }, async () => {
-    const scripts = [...text(name).matchAll(/<script(?: type="module")?>\n([^]*?)<\/script>/g)].map(([, script]) => script);
+    const scripts = [...text(name).matchAll(/<script(?: type="module")?>\n([^]*?)<\/script>/g)]
+      .map(([, script]) => script);
     const page = new FakePage(), script = scripts.at(-1).replace(/^import .*\n/m, "");
-    const carried = scripts.length > 1 && await new Function(`${scripts[0].replace("globalThis.carried", "const carried")}
-      return carried;`)();
+    const first = scripts[0].replace("globalThis.carried", "const carried");
+    const carried = scripts.length > 1 && new Function(`${first} return carried;`)();
     await run(script, page, carried);
     assert.match(page.said, /^(29|30|31) frames, 70\.09 a second$/);
     assert.ok(page.drawn.length >= 29);
@@ -60,7 +62,8 @@ for (const name of ["plasma.html", "plasma-one-file.html"]) {
 }
 
 test("the page of one file has half a megabyte, and the other one some 100 lines", { skip }, () => {
-  const { length } = readFileSync(new URL("plasma-one-file.html", FOLDER)), lines = text("plasma.html").split("\n").length;
+  const { length } = readFileSync(new URL("plasma-one-file.html", FOLDER));
+  const lines = text("plasma.html").split("\n").length;
   assert.match(text("README.md"), /half a megabyte/);
   assert.ok(length > 400_000 && length < 600_000, `${length} bytes`);
   assert.ok(lines > 90 && lines < 110, `${lines} lines`);

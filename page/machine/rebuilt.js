@@ -31,9 +31,9 @@ function rebuiltScript(card) {
   try {
     return card.rebuild().script;
   } catch (error) {
-    if (error.status === STATUS.NOT_REBUILT) throw new Trouble("No steps from power-on are known that lead to this state.");
-    if (error.status === STATUS.TOO_LONG) throw new Trouble("The steps that rebuild this state would be too many.");
-    throw error;
+    const reason = { [STATUS.NOT_REBUILT]: "No steps from power-on are known that lead to this state.",
+      [STATUS.TOO_LONG]: "The steps that rebuild this state would be too many." }[error.status];
+    throw reason ? new Trouble(reason) : error;
   }
 }
 

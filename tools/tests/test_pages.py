@@ -335,7 +335,7 @@ class Tutorial(unittest.TestCase):
         self.assertEqual({path.stem for path in SCRIPTS.iterdir()} & listed, set())
 
     def test_the_check_in_a_browser_does_what_it_says(self) -> None:
-        first = ("opening", "tutorial")
+        first = ("opening", "tutorial", "browsers")
         by_hand = ("keeping", "writing", "typing", "panes", "sidebyside", "asking", "running")
         told = {
             engine: "; ".join(f"{name}.mjs {engine}" for name in names)

@@ -32,6 +32,7 @@ from zaklimot_tools.dev.library_tests.compilers import make_check, run
 from zaklimot_tools.dev.page.machine import is_of_this_compiler, machine_in, made_machine
 from zaklimot_tools.dev.page.making import MOST_MODULE, check_module, kit_of, made_modules
 from zaklimot_tools.dev.page.packing import unzipped
+from zaklimot_tools.dev.page.package import FOLDER as LIBRARY
 from zaklimot_tools.dev.page.package import others
 from zaklimot_tools.dev.page.page import data_of, editor_in, page_text, read_sources
 from zaklimot_tools.dev.page.words import MOST_BYTES
@@ -59,6 +60,8 @@ TESTS = PAGE.parent / "tests"
 # a person does with keys and pointer, how long keys take, and each of its controls.
 OPENING, TUTORIAL, BROWSER = (TESTS / f"{name}.mjs" for name in ("opening", "tutorial", "browser"))
 USES = ("keeping", "writing", "typing", "panes", "sidebyside", "asking", "running")
+# What the package for JavaScript does there, in a page, in a worker, and in its example.
+OF_LIBRARY = LIBRARY / "tests" / "browsers.mjs"
 BY_HAND = [TESTS / f"{name}.mjs" for name in USES]
 CHROMIUM = "chromium"
 FIREFOX = "firefox"
@@ -284,8 +287,9 @@ def lacking_packages(engine: str) -> list[str]:
 
 
 def check_browser(engine: str) -> str:
-    """The page as built in a browser, and the tutorial in it. Chromium uses each control too."""
-    tests: list[list[Word]] = [[OPENING, engine], [TUTORIAL, engine]]
+    """The page as built in a browser, the tutorial in it, and the package for JavaScript. Chromium
+    uses each control too."""
+    tests: list[list[Word]] = [[OPENING, engine], [TUTORIAL, engine], [OF_LIBRARY, engine]]
     if engine != WEBKIT:
         tests += [[test, engine] for test in BY_HAND]
     if engine == CHROMIUM:
