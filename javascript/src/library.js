@@ -36,7 +36,8 @@ export class Library {
     }
     /** The font of cards that are opened without one; null where there is none. */
     this.fonts = fonts && bytesOf("the fonts", fonts);
-    const scratch = this.take(SCRATCH_SIZE);
+    const scratch = this.calls.page_take(SCRATCH_SIZE) >>> 0;
+    if (!scratch) throw new RangeError("the module has no memory for its first bytes");
     /** Where calls write lengths, 8 bytes each, and where they write a struct. */
     this.lengths = scratch;
     this.struct = scratch + LENGTHS_SIZE;

@@ -8,16 +8,23 @@ const decoder = new TextDecoder();
 const NO_BYTES = new Uint8Array();
 
 /** Frees what a card has in the module's memory. */
-function release({ library, address, rooms }) {
+function release(library, { address, rooms }) {
   library.calls.zak_close(address);
   for (const at of [...rooms.values(), address]) library.give(at);
   rooms.clear();
 }
 
-/** Closes cards that nobody has closed, and says so. */
+/** Closes cards that nobody has closed, and says so. With a library that is gone its memory is, too. */
 const forgotten = new FinalizationRegistry(held => {
+  const library = held.library.deref();
+  if (!library) return;
   console.warn("zaklimot: a card was not closed: call its close(), or open it by `using`.");
-  release(held);
+  try {
+    release(library, held);
+  } catch (error) {
+    // A module that has trapped takes no call, and nobody is there to be told.
+    if (!(error instanceof WebAssembly.RuntimeError)) throw error;
+  }
 });
 
 /** A card of a library, from when it is opened until it is closed. */
@@ -40,7 +47,7 @@ export class OpenCard {
       throw library.error(status);
     }
     this._address = address;
-    this._held = { library, address, rooms: new Map() };
+    this._held = { library: new WeakRef(library), address, rooms: new Map() };
     forgotten.register(this, this._held, this);
   }
 
@@ -61,7 +68,7 @@ export class OpenCard {
     const held = this._held;
     this._held = null;
     this._address = this.library.closedCard;
-    release(held);
+    release(this.library, held);
   }
 
   /** Memory of the module that is this card's own until it is closed: its address. */

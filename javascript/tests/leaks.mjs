@@ -83,15 +83,41 @@ test("a card that is forgotten is closed when it is collected, and the console s
   assert.match(done.stderr, /^zaklimot: a card was not closed: call its close\(\), or open it by `using`\.$/m);
 });
 
-test("a card that is closed is collected without a word", () => {
+test("a card that is closed, or goes with its library, is collected without a word", () => {
   const done = ran(`
     import { load } from ${JSON.stringify(ENTRY)};
     const library = await load();
+    let gone = 0;
+    const registry = new FinalizationRegistry(() => gone++), kept = {};
     for (let round = 0; round < 10; round++) {
       (() => library.open().close())();
+      kept.library = await load({});
+      registry.register(kept.library, null);
+      kept.cards = [kept.library.open(), kept.library.open()];
+      // An engine keeps what was referred to weakly until its job is done.
+      await new Promise(done => setTimeout(done));
+      delete kept.library;
+      delete kept.cards;
+      await new Promise(done => setTimeout(done));
       for (let wait = 0; wait < 3; wait++) { gc(); await new Promise(done => setTimeout(done)); }
     }
-    console.log("done");
+    console.log(gone >= 8);
   `);
-  assert.deepEqual([done.stdout, done.stderr], ["done\n", ""]);
+  assert.deepEqual([done.stdout, done.stderr], ["true\n", ""]);
+});
+
+test("a card that is forgotten by a module that has trapped ends no program", () => {
+  const done = ran(`
+    import { Library, load } from ${JSON.stringify(ENTRY)};
+    const { calls, fonts } = await load();
+    const trap = () => { throw new WebAssembly.RuntimeError("unreachable"); };
+    const broken = new Library({ exports: { ...calls, zak_close: trap } }, fonts);
+    for (let round = 0; round < 5; round++) {
+      (() => { broken.open(); })();
+      for (let wait = 0; wait < 3; wait++) { gc(); await new Promise(done => setTimeout(done)); }
+    }
+    console.log(broken.version.major);
+  `);
+  assert.deepEqual([done.status, done.stdout], [0, "1\n"], done.stderr);
+  assert.match(done.stderr, /a card was not closed/);
 });

@@ -64,6 +64,9 @@ test("bytes are arrays of bytes", () => {
     if (typeof other !== "number") assert.throws(() => card.getBytes(0xA0000, other), TypeError);
   }
   assert.throws(() => new Library({ exports: {} }), TypeError);
+  const spent = { ...library.calls, page_take: () => 0 }, older = { ...library.calls, zak_version: () => 0x10005 };
+  assert.throws(() => new Library({ exports: spent }), RangeError);
+  assert.throws(() => new Library({ exports: older }), TypeError);
   assert.equal(card.putBytes(0xA0000, Uint8ClampedArray.of(1, 2)), 2);
   assert.equal(card.putBytes(0xA0000, Buffer.from([3, 4])), 2);
   assert.deepEqual([...card.getBytes(0xA0000, 2)], [3, 4]);
