@@ -18,7 +18,9 @@ const FILES = ["LICENSE", "README.md", "loading.js", "package.json",
 const lacks = program => spawnSync(program, ["--version"]).error ?
   `${program} is not here: install Debian's package ${program}` : false;
 const run = (program, words, folder) => execFileSync(program, words,
-  { cwd: folder, encoding: "utf-8", timeout: MOST_TIME, stdio: ["ignore", "pipe", "pipe"] });
+  { cwd: folder, encoding: "utf-8", timeout: MOST_TIME, stdio: ["ignore", "pipe", "pipe"],
+    // What npm keeps and notes goes with the folder.
+    env: { ...process.env, npm_config_cache: join(folder, "cache"), npm_config_update_notifier: "false" } });
 
 /** Does something in a folder of its own. */
 function inFolder(does) {
