@@ -41,8 +41,8 @@ export interface Sources {
 }
 
 /**
- * Loads the module. Without `given`, the two files of this package are read, once for all calls; a
- * bundle that has no such files beside it gives their bytes.
+ * Loads the module. Without `given`, the two files of this package are read, once for all calls. With
+ * it, each call makes a library of its own; a bundle that has no such files beside it gives their bytes.
  */
 export function load(given?: Sources | null): Promise<Library>;
 

@@ -18,7 +18,7 @@ export class Card extends StateCard {
     return (await load()).open(fonts);
   }
 
-  constructor(library, fonts = library.fonts) {
+  constructor(library, fonts = library?.fonts) {
     super(library, fonts);
   }
 

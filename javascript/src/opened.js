@@ -6,6 +6,7 @@ import { writeStruct } from "./structs.js";
 export const BYTE = 0xFF, WORD = 0xFFFF, LONG = 0xFFFFFFFF;
 const decoder = new TextDecoder();
 const NO_BYTES = new Uint8Array();
+const NO_LIBRARY = "a card is opened by `await Card.open()`, or of a library that `load` has loaded";
 
 /** Frees what a card has in the module's memory. */
 function release(library, { address, rooms }) {
@@ -34,6 +35,7 @@ export class OpenCard {
   _address;
 
   constructor(library, fonts) {
+    if (!library?.calls) throw new TypeError(NO_LIBRARY);
     /** The library that has the card. */
     this.library = library;
     this._calls = library.calls;

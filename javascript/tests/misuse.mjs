@@ -66,6 +66,8 @@ test("bytes are arrays of bytes", () => {
   assert.throws(() => new Library({ exports: {} }), TypeError);
   const spent = { ...library.calls, page_take: () => 0 }, older = { ...library.calls, zak_version: () => 0x10005 };
   assert.throws(() => new Library({ exports: spent }), RangeError);
+  for (const none of [undefined, null, {}, 3]) assert.throws(() => new Card(none), /await Card\.open/);
+  assert.throws(() => new Library({ exports: library.calls }).open(), /no fonts are given/);
   assert.throws(() => new Library({ exports: older }), TypeError);
   assert.equal(card.putBytes(0xA0000, Uint8ClampedArray.of(1, 2)), 2);
   assert.equal(card.putBytes(0xA0000, Buffer.from([3, 4])), 2);
