@@ -6,6 +6,7 @@ import { writeStruct } from "./structs.js";
 export const BYTE = 0xFF, WORD = 0xFFFF, LONG = 0xFFFFFFFF;
 const decoder = new TextDecoder();
 const NO_BYTES = new Uint8Array();
+const REGISTERS = ["ax", "bx", "cx", "dx"];
 const NO_LIBRARY = "a card is opened by `await Card.open()`, or of a library that `load` has loaded";
 
 /** Frees what a card has in the module's memory. */
@@ -111,7 +112,14 @@ export class OpenCard {
 
   /** The registers of a call in the module's memory, as a `zak_regs`. */
   _registers(registers) {
-    const { library } = this;
+    const { library } = this, isObject = typeof registers === "object" && registers !== null;
+    // What a call has answered may be given to the next one.
+    const isOther = name => !REGISTERS.includes(name) && name !== "table";
+    const other = isObject ? Object.keys(registers).find(isOther) : "";
+    if (other !== undefined) {
+      const told = `the registers are to be an object, as { ax: 0x13 }: ${other || String(registers)} is none`;
+      throw new TypeError(`${told} of ${REGISTERS.join(", ")}`);
+    }
     writeStruct("zak_regs", registers, library.view, library.struct);
     return library.struct;
   }

@@ -38,6 +38,12 @@ test("a number out of range is never cut, and what is no number is told", () => 
       assert.throws(wrong(1n), TypeError, name);
     });
   }
+  for (const name of ["int10", "tryInt10", "block", "cycles", "tryCycles"]) {
+    for (const registers of [undefined, null, 0x13, "ax", [0x13], { AX: 0x13 }, { ax: 3, es: 0 }]) {
+      assert.throws(() => card[name](registers), /^TypeError: the registers are to be an object, as/);
+    }
+  }
+  assert.equal(card.int10({ ...card.int10({ ax: 0x0F00 }), ax: 0x0F00 }).ax, 0x2813);
   for (const registers of [{ ax: 65536 }, { bx: -1 }, { cx: 1.5 }, { dx: NaN }]) {
     assert.throws(() => card.int10(registers), RangeError);
   }
