@@ -537,7 +537,8 @@ export class Card {
   tryFrame(options?: FrameOptions): Picture | null;
   /**
    * The same, in pixels that the card keeps, with the rows that have changed since its last
-   * `frameUpdate`. All have changed if the size has, or the form.
+   * `frameUpdate`. All have changed if the size has, or the form. The first one takes 9.4 MB of the
+   * module's memory, until the card is closed.
    */
   frameUpdate(options?: FrameOptions): UpdatedPicture;
   tryFrameUpdate(options?: FrameOptions): UpdatedPicture | null;
