@@ -122,14 +122,22 @@ test("views of the module's memory end when it grows, and calls go on", async ()
   assert.equal(card.frameWords().words[0], first);
   card.restore(kept);
   assert.deepEqual(card.save(), kept);
-  // A view may be given back to a call, also if memory grows for it.
-  own.trim();
-  const other = own.open();
+  card.close();
+});
+
+test("a view of the module's memory may be given back to a call, also if memory grows for it", async () => {
+  const own = await load({}), cards = [own.open(), own.open()], [card, other] = cards;
+  card.int10({ ax: 0x13 });
+  card.put(0xA0000, 0x0C);
+  const kept = card.save();
   other.restore(card.saveView());
   assert.deepEqual(other.save(), kept);
-  assert.equal(card.putBytes(0xA0000, card.saveView().subarray(0, 1000)), 1000);
-  assert.deepEqual(card.getBytes(0xA0000, 1000), kept.slice(0, 1000));
-  for (const one of [card, other]) one.close();
+  // So many bytes, from the state to the memory's end, have no room without growth.
+  const { byteOffset } = card.saveView(), { length } = own.bytes;
+  assert.equal(card.putBytes(0xA0000, own.bytes.subarray(byteOffset)), 65536);
+  assert.ok(own.bytes.length > length, `${length} bytes are enough`);
+  assert.deepEqual(card.getBytes(0xA0000, 60000), kept.slice(0, 60000));
+  for (const one of cards) one.close();
 });
 
 test("a card that is closed says so, and stays closed", () => {
@@ -201,11 +209,11 @@ test("what is refused has its error, and changes nothing", () => {
 
 test("a report with less room than it needs says so; without a room it is as long as it is", async () => {
   // A library of its own, whose memory has no longer room from before.
-  const card = (await load({})).open(), twice = `int ax=3${"\nframe".repeat(9)}`;
+  const card = (await load({})).open(), twice = `show beam\nint ax=3${"\nframe".repeat(14)}`;
   assert.throws(() => card.runOn(twice, { room: 100 }), { status: STATUS.NO_ROOM });
   const next = opened(), { report, taken } = next.runOn(twice);
-  assert.equal(taken, 10);
-  assert.ok(report.length > 9 * 720 * 400 * 3, `${report.length} bytes`);
+  assert.equal(taken, 16);
+  assert.ok(report.length > 14 * 720 * 400 * 3, `${report.length} bytes`);
   assert.equal(Buffer.compare(report, library.run(twice)), 0);
   for (const one of [card, next]) one.close();
 });
