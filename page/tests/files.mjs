@@ -151,8 +151,8 @@ test("pictures that move are those that vga-report writes", async () => {
   }
   const source = `
 import io, sys
-sys.path.insert(0, "tools")
-from zaklimot_tools.images.png import Animation, Shape
+sys.path.insert(0, "python")
+from zaklimot.commands.images.png import Animation, Shape
 from zaklimot.format import Picture
 animation = Animation(Shape())
 for seconds in (0.0142, 1.5):

@@ -66,8 +66,8 @@ test("miscellaneous output", () => {
 
 test("the names are those of tools/vga-report, which names what differs in a dump", () => {
   const told = execFileSync("python3", ["-c", `import json, sys
-sys.path.insert(0, "tools")
-from zaklimot_tools.report.expecting import NAMES
+sys.path.insert(0, "python")
+from zaklimot.commands.report.expecting import NAMES
 print(json.dumps(NAMES))`], { cwd: TOP });
   const names = Object.fromEntries(GROUPS.filter(group => !["misc", "dac"].includes(group.id))
     .map(group => [group.id, group.registers.map(register => register.name)]));

@@ -5,8 +5,8 @@ from __future__ import annotations
 
 from typing import Iterator
 
-from zaklimot_tools.explain.faults import script_of
-from zaklimot_tools.floppy.image import image_for
+from zaklimot.commands.explain.faults import script_of
+from zaklimot.commands.floppy.image import image_for
 
 from .floppy import ANSWERS, MARK, Machine
 from .test_images import png

@@ -7,7 +7,7 @@ import json
 from pathlib import Path
 from typing import Any, Iterator
 
-from zaklimot_tools.trace.recording import PHASES
+from zaklimot.commands.trace.recording import PHASES
 
 from .tools import EXAMPLES, ended, ppm, run_tool
 from .tracing import qemu

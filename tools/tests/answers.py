@@ -26,9 +26,9 @@ from functools import lru_cache
 from pathlib import Path
 from typing import Callable, Iterable, Iterator, Mapping, Union
 
-from zaklimot_tools.dev.emulators.table_page import FIRST_MARK, LAST_MARK
-from zaklimot_tools.script.program import found_program
-from zaklimot_tools.script.words import FONTS
+from zaklimot_dev.emulators.table_page import FIRST_MARK, LAST_MARK
+from zaklimot.commands.script.program import found_program
+from zaklimot.commands.script.words import FONTS
 
 from . import answered_images, answered_scripts, answered_traces
 from .stepping import compile_library

@@ -17,7 +17,7 @@ from random import Random
 from typing import Union
 
 from zaklimot.format import encode, parse_text
-from zaklimot_tools.dev.fuzz.making import make
+from zaklimot_dev.fuzz.making import make
 
 from .stepping import compile_library, steps, told
 

@@ -9,9 +9,9 @@ from itertools import chain
 from pathlib import Path
 from unittest import mock
 
-from zaklimot_tools.explain.faults import script_of
-from zaklimot_tools.floppy import rows
-from zaklimot_tools.floppy.image import image_for
+from zaklimot.commands.explain.faults import script_of
+from zaklimot.commands.floppy import rows
+from zaklimot.commands.floppy.image import image_for
 
 from .floppy import PAGE, Machine, check_of, machine, row
 from .tools import Folder, run_tool

@@ -7,9 +7,9 @@ import unittest
 from typing import NamedTuple
 
 from zaklimot.format import Block, Step
-from zaklimot_tools.picture.mode import MODES
-from zaklimot_tools.picture.screen import Areas, CellWindow, put_steps, scroll
-from zaklimot_tools.picture.steps import Item, runs
+from zaklimot.commands.picture.mode import MODES
+from zaklimot.commands.picture.screen import Areas, CellWindow, put_steps, scroll
+from zaklimot.commands.picture.steps import Item, runs
 
 from .tools import hold
 

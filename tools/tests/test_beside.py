@@ -10,12 +10,12 @@ import unittest
 from pathlib import Path
 from typing import Optional
 
-from zaklimot_tools.script.words import FONTS
+from zaklimot.commands.script.words import FONTS
 
 from .floppy import machine
 from .test_images import png
 from .test_picture import Dots
-from .tools import PYTHON, TOOLS, Folder, ended, hold_undone, ppm
+from .tools import MODULES, PYTHON, TOOLS, Folder, ended, hold_undone, ppm
 
 
 def python_with_both() -> Optional[str]:
@@ -31,8 +31,8 @@ BOTH = python_with_both()
 # Compares what numpy works out with what is worked out without it, for images of many sizes.
 COMPARING = """
 import random
-from zaklimot_tools.picture import colours
-from zaklimot_tools.picture.asked import Fewer
+from zaklimot.commands.picture import colours
+from zaklimot.commands.picture.asked import Fewer
 chance = random.Random(1)
 with_numpy = colours._arrays()
 same = 0
@@ -135,7 +135,7 @@ class Beside(Folder):
         self.assertGreater(len(whole), 100_000)
 
     def test_images_of_odd_sizes(self) -> None:
-        environment = {"PYTHONPATH": str(TOOLS)}
+        environment = {"PYTHONPATH": MODULES}
         done = ended(str(BOTH), "-c", COMPARING, env={**os.environ, **environment})
         self.assertEqual(done, (0, "36 the same\n", ""))
 

@@ -10,9 +10,9 @@ from contextlib import contextmanager
 from functools import partial
 from typing import Callable, Iterator
 
-from zaklimot_tools.core.processes import end_with_parent, started
-from zaklimot_tools.floppy.image import read_record
-from zaklimot_tools.floppy.running import (
+from zaklimot.commands.core.processes import end_with_parent, started
+from zaklimot.commands.floppy.image import read_record
+from zaklimot.commands.floppy.running import (
     IMAGE,
     MACHINES,
     QMP_SOCKET,
@@ -20,7 +20,7 @@ from zaklimot_tools.floppy.running import (
     ROMS,
     environment,
 )
-from zaklimot_tools.trace.monitor import Monitor, monitor_at
+from zaklimot.commands.trace.monitor import Monitor, monitor_at
 
 from .floppy import KEYS, pages_of
 from .tools import Folder, run_tool

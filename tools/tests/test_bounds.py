@@ -17,30 +17,30 @@ from typing import Callable, Optional
 from unittest import mock
 
 from zaklimot.format import MOST_BYTES, Picture, count_in, decimal, parse_text, steps_in
-from zaklimot_tools.core.files import files_of_run
-from zaklimot_tools.core.streams import bytes_of, read_at_most
-from zaklimot_tools.core.trouble import Trouble
-from zaklimot_tools.core.words import number_to, seconds
-from zaklimot_tools.explain.faults import read_script
-from zaklimot_tools.explain.mistakes import mistake_in
-from zaklimot_tools.floppy import image
-from zaklimot_tools.floppy.table import HEADER, NAME, VERSION, Table, table_for
-from zaklimot_tools.images import holding, others, reading
-from zaklimot_tools.images.png import ImageSize
-from zaklimot_tools.images.reading import image_of, size_of
-from zaklimot_tools.images.words import Within
-from zaklimot_tools.picture.asked import Fit
-from zaklimot_tools.picture.fitting import check_size
-from zaklimot_tools.picture.mode import MODES
-from zaklimot_tools.report import cases
-from zaklimot_tools.report.cases import MOST_LISTED, read_cases
-from zaklimot_tools.report.report import Expected, Report
+from zaklimot.commands.core.files import files_of_run
+from zaklimot.commands.core.streams import bytes_of, read_at_most
+from zaklimot.commands.core.trouble import Trouble
+from zaklimot.commands.core.words import number_to, seconds
+from zaklimot.commands.explain.faults import read_script
+from zaklimot.commands.explain.mistakes import mistake_in
+from zaklimot.commands.floppy import image
+from zaklimot.commands.floppy.table import HEADER, NAME, VERSION, Table, table_for
+from zaklimot.commands.images import holding, others, reading
+from zaklimot.commands.images.png import ImageSize
+from zaklimot.commands.images.reading import image_of, size_of
+from zaklimot.commands.images.words import Within
+from zaklimot.commands.picture.asked import Fit
+from zaklimot.commands.picture.fitting import check_size
+from zaklimot.commands.picture.mode import MODES
+from zaklimot.commands.report import cases
+from zaklimot.commands.report.cases import MOST_LISTED, read_cases
+from zaklimot.commands.report.report import Expected, Report
 
 from .running import Fake
 from .test_images import png
 from .tools import (
+    MODULES,
     PYTHON,
-    TOOLS,
     Folder,
     ended,
     hold,
@@ -371,7 +371,9 @@ class Floppies(unittest.TestCase):
 
 class Names(unittest.TestCase):
     def test_one_that_is_no_text(self) -> None:
-        work = "from zaklimot_tools.core import cli\ncli.run('it', lambda: print('\\udcff') or 0)"
-        environment = {**os.environ, "PYTHONPATH": str(TOOLS)}
+        work = (
+            "from zaklimot.commands.core import cli\ncli.run('it', lambda: print('\\udcff') or 0)"
+        )
+        environment = {**os.environ, "PYTHONPATH": MODULES}
         done = ended(*PYTHON, "-c", work, env=environment, text=False)
         self.assertEqual(done, (0, b"\xff\n", b""))

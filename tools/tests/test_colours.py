@@ -9,22 +9,28 @@ import unittest
 from collections import Counter
 from itertools import product
 
-from zaklimot_tools.picture import colours
-from zaklimot_tools.picture.asked import Fewer
-from zaklimot_tools.picture.cells import Chooser, font_of
-from zaklimot_tools.picture.colours import Colour, distance, indexed, middle_colours, outer_colours
-from zaklimot_tools.picture.mode import MODES, text_of
-from zaklimot_tools.picture.screen import best_numbers
-from zaklimot_tools.script.words import FONTS
+from zaklimot.commands.picture import colours
+from zaklimot.commands.picture.asked import Fewer
+from zaklimot.commands.picture.cells import Chooser, font_of
+from zaklimot.commands.picture.colours import (
+    Colour,
+    distance,
+    indexed,
+    middle_colours,
+    outer_colours,
+)
+from zaklimot.commands.picture.mode import MODES, text_of
+from zaklimot.commands.picture.screen import best_numbers
+from zaklimot.commands.script.words import FONTS
 
 from .test_beside import BOTH
 from .test_picture import BLACK, WHITE, made_of, ppm_of
-from .tools import TOOLS, ended, hold, refused
+from .tools import MODULES, ended, hold, refused
 
 # Compares what numpy works out at once and in small parts.
 COMPARING = """
 import random
-from zaklimot_tools.picture import arrays, colours
+from zaklimot.commands.picture import arrays, colours
 chance = random.Random(3)
 dots = [[tuple(chance.choices(range(64), k=3)) for _ in range(37)] for _ in range(23)]
 chosen = sorted({tuple(chance.choices(range(64), k=3)) for _ in range(30)})
@@ -156,17 +162,17 @@ class Order(unittest.TestCase):
 @unittest.skipIf(BOTH is None, "no Python has numpy and Pillow: install python3-numpy, python3-pil")
 class Parts(unittest.TestCase):
     def test_dots_are_worked_out_in_parts(self) -> None:
-        environment = {**os.environ, "PYTHONPATH": str(TOOLS)}
+        environment = {**os.environ, "PYTHONPATH": MODULES}
         done = ended(str(BOTH), "-c", COMPARING, env=environment)
         self.assertEqual(done, (0, "6 the same\n", ""))
 
     def test_numpy_is_used_for_many_dots_alone(self) -> None:
         asking = (
-            "import sys; from zaklimot_tools.picture import colours;"
+            "import sys; from zaklimot.commands.picture import colours;"
             "print(colours.arrays_for(8191), 'numpy' in sys.modules,"
             " colours.arrays_for(8192) is not None, 'numpy' in sys.modules)"
         )
-        environment = {**os.environ, "PYTHONPATH": str(TOOLS)}
+        environment = {**os.environ, "PYTHONPATH": MODULES}
         told = ended(str(BOTH), "-c", asking, env=environment)
         self.assertEqual(told, (0, "None False True True\n", ""))
 

@@ -4,11 +4,11 @@ import argparse
 import os
 from functools import partial
 
-from zaklimot_tools.core.cli import add
-from zaklimot_tools.core.files import Input, PictureFolder
-from zaklimot_tools.dev.completions import bash, fish, zsh
-from zaklimot_tools.dev.completions.command import completions, tools
-from zaklimot_tools.dev.completions.described import (
+from zaklimot.commands.core.cli import add
+from zaklimot.commands.core.files import Input, PictureFolder
+from zaklimot_dev.completions import bash, fish, zsh
+from zaklimot_dev.completions.command import completions, tools
+from zaklimot_dev.completions.described import (
     ToolArgument,
     ToolCommand,
     OfferedFiles,

@@ -9,18 +9,18 @@ from typing import Any, Iterator, Optional
 from unittest import mock
 
 from zaklimot.format import Step, decode
-from zaklimot_tools.core.processes import Done
-from zaklimot_tools.core.progress import Progress
-from zaklimot_tools.script.words import FONTS
-from zaklimot_tools.steps import confirming
-from zaklimot_tools.steps.answers import FRAME, REGISTERS_SHOWN, answers_in
-from zaklimot_tools.steps.comparing import differences
-from zaklimot_tools.steps.kinds import KINDS
-from zaklimot_tools.steps.parts import ANSWER, FINAL, INITIAL, PLACES, SUMS, Element
-from zaklimot_tools.steps.reading import read_elements
-from zaklimot_tools.steps.running import Runner, runner
-from zaklimot_tools.steps.scripts import confirming as confirmed
-from zaklimot_tools.steps.scripts import reached, scripted
+from zaklimot.commands.core.processes import Done
+from zaklimot.commands.core.progress import Progress
+from zaklimot.commands.script.words import FONTS
+from zaklimot.commands.steps import confirming
+from zaklimot.commands.steps.answers import FRAME, REGISTERS_SHOWN, answers_in
+from zaklimot.commands.steps.comparing import differences
+from zaklimot.commands.steps.kinds import KINDS
+from zaklimot.commands.steps.parts import ANSWER, FINAL, INITIAL, PLACES, SUMS, Element
+from zaklimot.commands.steps.reading import read_elements
+from zaklimot.commands.steps.running import Runner, runner
+from zaklimot.commands.steps.scripts import confirming as confirmed
+from zaklimot.commands.steps.scripts import reached, scripted
 
 from .stepping import STEPS_EXAMPLES, steps
 from .tools import PROGRAM, Folder, hold_undone, refused, takes_long, want_program

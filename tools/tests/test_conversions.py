@@ -11,9 +11,9 @@ from itertools import product
 from pathlib import Path
 
 from zaklimot.format import Answer
-from zaklimot_tools.script.words import FONTS
-from zaklimot_tools.trace.converting import Checking, Listing, convert
-from zaklimot_tools.trace.step import IN, OUT, OUTW, TraceStep
+from zaklimot.commands.script.words import FONTS
+from zaklimot.commands.trace.converting import Checking, Listing, convert
+from zaklimot.commands.trace.step import IN, OUT, OUTW, TraceStep
 
 from .tools import (
     EXAMPLES,

@@ -12,11 +12,11 @@ import unittest
 from itertools import product
 from typing import Any, Iterable, Optional
 
-from zaklimot_tools.core.trouble import Trouble
-from zaklimot_tools.trace import converting
-from zaklimot_tools.trace.words import main
-from zaklimot_tools.trace.converting import Pauses, Written, count, folded, with_flips
-from zaklimot_tools.trace.step import ADVANCE, FRAME, IN, NAMES, OUT, OUTW, PUT, TraceStep
+from zaklimot.commands.core.trouble import Trouble
+from zaklimot.commands.trace import converting
+from zaklimot.commands.trace.words import main
+from zaklimot.commands.trace.converting import Pauses, Written, count, folded, with_flips
+from zaklimot.commands.trace.step import ADVANCE, FRAME, IN, NAMES, OUT, OUTW, PUT, TraceStep
 
 from .tools import (
     EXAMPLES,

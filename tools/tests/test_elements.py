@@ -13,16 +13,16 @@ from unittest import mock
 from xml.etree import ElementTree
 
 from zaklimot.format import Step
-from zaklimot_tools.script.words import FONTS
-from zaklimot_tools.script import library
-from zaklimot_tools.steps import asking
-from zaklimot_tools.steps.adapter import SteppedCard
-from zaklimot_tools.steps.library import load
-from zaklimot_tools.steps.machines import _stem
-from zaklimot_tools.steps.parts import FINAL, INITIAL, Element
-from zaklimot_tools.steps.readback import readback_lines
-from zaklimot_tools.steps.reading import read_elements
-from zaklimot_tools.steps.scripts import reached
+from zaklimot.commands.script.words import FONTS
+from zaklimot.commands.script import library
+from zaklimot.commands.steps import asking
+from zaklimot.commands.steps.adapter import SteppedCard
+from zaklimot.commands.steps.library import load
+from zaklimot.commands.steps.machines import _stem
+from zaklimot.commands.steps.parts import FINAL, INITIAL, Element
+from zaklimot.commands.steps.readback import readback_lines
+from zaklimot.commands.steps.reading import read_elements
+from zaklimot.commands.steps.scripts import reached
 
 from .stepping import GOOD, STEPS_EXAMPLES, steps
 from .tools import TRIED, Folder, hold, hold_refused, hold_undone, refused, run_tool, takes_long

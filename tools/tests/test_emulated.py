@@ -9,8 +9,8 @@ import unittest
 from pathlib import Path
 from unittest import mock
 
-from zaklimot_tools.floppy import running
-from zaklimot_tools.floppy.running import MACHINES, Margin, PackagedFile, window_image
+from zaklimot.commands.floppy import running
+from zaklimot.commands.floppy.running import MACHINES, Margin, PackagedFile, window_image
 
 from .floppy import machine
 from .tools import Folder, hold, png_rows, refused, run_tool

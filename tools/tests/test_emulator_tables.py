@@ -8,10 +8,10 @@ from pathlib import Path
 from typing import Any
 from unittest import mock
 
-from zaklimot_tools.dev.emulators import table_page
-from zaklimot_tools.dev.emulators.table_page import FIRST_MARK, LAST_MARK
-from zaklimot_tools.floppy import running
-from zaklimot_tools.floppy.running import MACHINES
+from zaklimot_dev.emulators import table_page
+from zaklimot_dev.emulators.table_page import FIRST_MARK, LAST_MARK
+from zaklimot.commands.floppy import running
+from zaklimot.commands.floppy.running import MACHINES
 
 from .tools import Folder, call, hold, hold_undone, main_of
 

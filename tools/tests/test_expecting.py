@@ -16,10 +16,10 @@ from unittest import mock
 from xml.etree import ElementTree
 
 from zaklimot.format import Answer, count_in, lines_in, places_in, steps_in, words_in
-from zaklimot_tools.core.trouble import Trouble
-from zaklimot_tools.report.expecting import dumps_in, expected_in, is_worth_telling
-from zaklimot_tools.script import program
-from zaklimot_tools.script.reading import text_of
+from zaklimot.commands.core.trouble import Trouble
+from zaklimot.commands.report.expecting import dumps_in, expected_in, is_worth_telling
+from zaklimot.commands.script import program
+from zaklimot.commands.script.reading import text_of
 
 from .running import Fake, run
 from .tools import EXAMPLES, PROGRAM, begin, hold, refused, takes_long, want_program
@@ -208,7 +208,7 @@ class Several(Fake):
 
     def test_json_is_made_where_it_is_wanted_alone(self) -> None:
         # For each step it takes as long as all else.
-        wrong = mock.patch("zaklimot_tools.report.listing._told", side_effect=MemoryError)
+        wrong = mock.patch("zaklimot.commands.report.listing._told", side_effect=MemoryError)
         with wrong:
             status, output, said = self.run_script(path=str(self.tests))
             self.assertEqual((status, said), (1, ""))
@@ -218,7 +218,7 @@ class Several(Fake):
 
     def test_a_script_that_was_not_even_begun_is_null_in_the_json(self) -> None:
         told = self.folder / "told.json"
-        with mock.patch("zaklimot_tools.report.runs.tallied", side_effect=Trouble("no room")):
+        with mock.patch("zaklimot.commands.report.runs.tallied", side_effect=Trouble("no room")):
             status, _, said = self.run_script("--json", str(told), path=str(self.tests))
         self.assertEqual((status, said), (2, "vga-report: no room\n" * 2))
         self.assertEqual(json.loads(told.read_text()), [None, None])

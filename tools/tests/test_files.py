@@ -13,8 +13,8 @@ import unittest
 from pathlib import Path
 from unittest import mock
 
-from zaklimot_tools.core.cli import Ended
-from zaklimot_tools.core.files import (
+from zaklimot.commands.core.cli import Ended
+from zaklimot.commands.core.files import (
     Input,
     Output,
     OutputOrFolder,
@@ -22,10 +22,10 @@ from zaklimot_tools.core.files import (
     files,
     files_of_run,
 )
-from zaklimot_tools.core.streams import empty_folder, write_over, writing
+from zaklimot.commands.core.streams import empty_folder, write_over, writing
 
 from .running import Fake
-from .tools import PYTHON, TOOLS, Folder, begin, ended, hold_undone, ppm, refused, run_tool
+from .tools import PYTHON, TOOLS, TOP, Folder, begin, ended, hold_undone, ppm, refused, run_tool
 
 
 BOTH = "two outputs have this name, and one would be lost\n"
@@ -373,11 +373,11 @@ class Recordings(Folder):
 
     def test_no_option_is_advised_that_the_tool_lacks(self) -> None:
         (self.folder / "tools").mkdir()
-        for name in ("tools/zaklimot_tools", "bindings", "fonts", "include"):
-            (self.folder / name).symlink_to(TOOLS.parent / name)
-        (self.folder / "tools" / "zaklimot_tools").unlink()
-        copied = (TOOLS / name for name in ("zaklimot_tools", "vga-trace", "vga"))
-        self.assertEqual(ended("cp", "-r", *copied, self.folder / "tools")[0], 0)
+        for name in ("fonts", "include"):
+            (self.folder / name).symlink_to(TOP / name)
+        self.assertEqual(ended("cp", "-r", TOP / "python", self.folder)[0], 0)
+        copied = (TOOLS / name for name in ("vga-trace", "vga"))
+        self.assertEqual(ended("cp", *copied, self.folder / "tools")[0], 0)
         given = {**os.environ, "PATH": "/nowhere"}
         trace = self.folder / "tools" / "vga-trace"
         words = ("record", self.folder / "made", "--", "-cdrom", "disc")
@@ -421,7 +421,7 @@ class Endings(Folder):
             process.send_signal(signal.SIGINT)
             _, said = process.communicate()
             with self.subTest(delay=delay):
-                self.assertNotIn(b"zaklimot_tools", said)
+                self.assertNotIn(b"zaklimot", said)
 
     @unittest.skipUnless(
         Path("/proc/self/stat").exists(), "processes are looked at as Linux shows them"

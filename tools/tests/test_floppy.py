@@ -19,21 +19,28 @@ from typing import Callable
 from unittest import mock
 
 from zaklimot.format import Script, Step
-from zaklimot_tools.core.processes import started
-from zaklimot_tools.dev.emulators.words import main as emulators
-from zaklimot_tools.dev.emulators.table_page import FIRST_MARK, LAST_MARK
-from zaklimot_tools.explain.faults import script_of
-from zaklimot_tools.core.trouble import Trouble
-from zaklimot_tools.floppy import image as images, rows, running
-from zaklimot_tools.floppy.image import CODE, Run, image_for, read_image, read_record, report_lines
-from zaklimot_tools.floppy.asked import DOSBOX
-from zaklimot_tools.floppy.running import MACHINES
-from zaklimot_tools.floppy.table import Table, is_for_machine, reset_steps, table_for
-from zaklimot_tools.report.cases import read_cases
-from zaklimot_tools.report.places import SUITE
-from zaklimot_tools.explain.banks import Bank
-from zaklimot_tools.trace.state import State
-from zaklimot_tools.trace.step import GET, IN, OUT, PUT, TraceStep
+from zaklimot.commands.core.processes import started
+from zaklimot_dev.emulators.words import main as emulators
+from zaklimot_dev.emulators.table_page import FIRST_MARK, LAST_MARK
+from zaklimot.commands.explain.faults import script_of
+from zaklimot.commands.core.trouble import Trouble
+from zaklimot.commands.floppy import image as images, rows, running
+from zaklimot.commands.floppy.image import (
+    CODE,
+    Run,
+    image_for,
+    read_image,
+    read_record,
+    report_lines,
+)
+from zaklimot.commands.floppy.asked import DOSBOX
+from zaklimot.commands.floppy.running import MACHINES
+from zaklimot.commands.floppy.table import Table, is_for_machine, reset_steps, table_for
+from zaklimot.commands.report.cases import read_cases
+from zaklimot.commands.report.places import SUITE
+from zaklimot.commands.explain.banks import Bank
+from zaklimot.commands.trace.state import State
+from zaklimot.commands.trace.step import GET, IN, OUT, PUT, TraceStep
 
 from .floppy import ANSWERS, KEYS, MARK, Machine, cycles, line, machine
 from .tools import TOOLS, TOP, Folder, begin, call, ended, hold, hold_undone, refused, run_tool
@@ -282,9 +289,9 @@ class Images(Folder):
     def test_each_may_have_as_many_steps_as_a_script(self) -> None:
         scripts = {name: script_of(b"in 3CC\nin 3CC\n", name) for name in ("one", "two")}
         table = Table(table_for(scripts), "it")
-        with mock.patch("zaklimot_tools.floppy.table.MOST_STEPS", 2):
+        with mock.patch("zaklimot.commands.floppy.table.MOST_STEPS", 2):
             self.assertEqual([name for name, _ in table.scripts()], ["one", "two"])
-        with mock.patch("zaklimot_tools.floppy.table.MOST_STEPS", 1):
+        with mock.patch("zaklimot.commands.floppy.table.MOST_STEPS", 1):
             self.assertRaisesRegex(Trouble, "none that vga-floppy makes", table.scripts)
 
     def test_a_bad_one_is_named(self) -> None:

@@ -10,10 +10,10 @@ from pathlib import Path
 from typing import Optional
 from unittest import mock
 
-from zaklimot_tools.core.progress import Progress
-from zaklimot_tools.explain.faults import script_of
-from zaklimot_tools.floppy import rows, running
-from zaklimot_tools.floppy.image import (
+from zaklimot.commands.core.progress import Progress
+from zaklimot.commands.explain.faults import script_of
+from zaklimot.commands.floppy import rows, running
+from zaklimot.commands.floppy.image import (
     Run,
     has_ended,
     image_for,
@@ -21,9 +21,9 @@ from zaklimot_tools.floppy.image import (
     read_record,
     report_lines,
 )
-from zaklimot_tools.floppy.running import MACHINES, PackagedFile
-from zaklimot_tools.floppy.table import Table, table_for
-from zaklimot_tools.images import others
+from zaklimot.commands.floppy.running import MACHINES, PackagedFile
+from zaklimot.commands.floppy.table import Table, table_for
+from zaklimot.commands.images import others
 
 from .floppy import ANSWERS, MARK, Machine, line, machine, row
 from .test_beside import BOTH, bmp
@@ -289,7 +289,7 @@ class Lengths(Folder):
             names = [self.write(f"{number}.txt", page) for number, page in enumerate(pages)]
             progress = mock.create_autospec(Progress, instance=True)
             progress.is_due.return_value = True
-            with mock.patch("zaklimot_tools.core.cli.Progress", return_value=progress):
+            with mock.patch("zaklimot.commands.core.cli.Progress", return_value=progress):
                 words = [f"--pages={name}" for name in names]
                 done = call(main_of("vga-floppy"), "read", image, *words, self.folder / "report")
             self.assertEqual(done, (0, "", ""))
@@ -318,7 +318,7 @@ class Lengths(Folder):
 
     def test_a_record_as_long_as_may_be_read(self) -> None:
         record = b"".join(machine(b"in 3CC\n").record)
-        with mock.patch("zaklimot_tools.floppy.command.MOST_READ", len(record)):
+        with mock.patch("zaklimot.commands.floppy.command.MOST_READ", len(record)):
             for noise, told in ((b"", (0, b"1 CC\n", "")), (b"\n", None)):
                 done = run("read", "--serial", "-", given=noise + record)
                 if told is None:

@@ -8,7 +8,7 @@ from dataclasses import replace
 from typing import Sequence
 
 from zaklimot.format import Step
-from zaklimot_tools.picture.cells import (
+from zaklimot.commands.picture.cells import (
     BLANK_ATTRIBUTE,
     Chosen,
     font_of,
@@ -17,10 +17,10 @@ from zaklimot_tools.picture.cells import (
     put_cells,
     typed_cells,
 )
-from zaklimot_tools.picture.cells import _wanted
-from zaklimot_tools.picture.colours import Colour, Indexed
-from zaklimot_tools.picture.mode import MODES, text_of
-from zaklimot_tools.picture.steps import Item
+from zaklimot.commands.picture.cells import _wanted
+from zaklimot.commands.picture.colours import Colour, Indexed
+from zaklimot.commands.picture.mode import MODES, text_of
+from zaklimot.commands.picture.steps import Item
 
 from .test_picture import BLACK, WHITE
 from .tools import hold, refused

@@ -13,14 +13,14 @@ from itertools import product
 from pathlib import Path
 from unittest import mock
 
-from zaklimot_tools.core.processes import Streamed
-from zaklimot_tools.core.progress import Progress
-from zaklimot_tools.report import folders, suite
-from zaklimot_tools.report.listing import RunScript
-from zaklimot_tools.report.suite import AGREES, DIFFERS, FAILED, SKIPPED, Result, _worst
-from zaklimot_tools.report.words import parser
-from zaklimot_tools.script import launching, program
-from zaklimot_tools.script.program import (
+from zaklimot.commands.core.processes import Streamed
+from zaklimot.commands.core.progress import Progress
+from zaklimot.commands.report import folders, suite
+from zaklimot.commands.report.listing import RunScript
+from zaklimot.commands.report.suite import AGREES, DIFFERS, FAILED, SKIPPED, Result, _worst
+from zaklimot.commands.report.words import parser
+from zaklimot.commands.script import launching, program
+from zaklimot.commands.script.program import (
     BuiltProgram,
     built_program,
     check_ended,

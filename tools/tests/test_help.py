@@ -11,28 +11,29 @@ import unittest
 from itertools import groupby
 from typing import Iterator
 
-from zaklimot_tools.core.version import version
-from zaklimot_tools.dev.emulators import traces, words as recorded
-from zaklimot_tools.dev.library_tests import (
+from zaklimot.commands.core.version import version
+from zaklimot_dev.emulators import traces, words as recorded
+from zaklimot_dev.library_tests import (
     binding_words,
     bindings,
     command as library,
     one_file,
     words as tested,
 )
-from zaklimot_tools.dev.library_tests.compilers import I386, PORTABLE_TARGETS
-from zaklimot_tools.floppy.asked import EMULATORS
-from zaklimot_tools.floppy.running import MACHINES
+from zaklimot_dev.library_tests.compilers import I386, PORTABLE_TARGETS
+from zaklimot.commands.floppy.asked import EMULATORS
+from zaklimot.commands.floppy.running import MACHINES
 
 from .test_pages import pages
-from .tools import MAIN, NAMES, PYTHON, TOOLS, TOP, call, ended, hold_undone, main_of
+from .tools import MAIN, MODULES, NAMES, PYTHON, TOOLS, TOP, call, ended, hold_undone, main_of
 
 
 # What may be loaded for a help: what all tools have in common, and modules of words alone.
 LIGHT = re.compile(
-    r"^zaklimot_tools(\.(starting|core(\.(cli|files|progress|signals|trouble|version|words))?"
-    r"|(script|images|report|trace|picture|floppy|steps|dev(\.\w+)?)"
-    r"(\.(\w*words|asked|places|mode))?))?$"
+    r"^zaklimot(_dev(\.\w+)?(\.\w*words)?"
+    r"|\.commands(\.(starting|core(\.(cli|files|progress|signals|trouble|version|words))?"
+    r"|(script|images|report|trace|picture|floppy|steps)(\.(\w*words|asked|places|mode))?))?"
+    r"|\.format(\.\w+)?)?$"
 )
 
 
@@ -122,7 +123,7 @@ class Words(unittest.TestCase):
 
     def test_a_help_needs_none_of_what_does_the_work(self) -> None:
         told = "; print('loaded', *(name for name in sys.modules if name.startswith('zaklimot')))"
-        environment = {**os.environ, "PYTHONPATH": str(TOOLS)}
+        environment = {**os.environ, "PYTHONPATH": MODULES}
         for name in NAMES:
             module = words_of(name)
             command = f"import sys; from {module} import main; main(['--help']){told}"

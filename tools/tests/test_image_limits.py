@@ -12,13 +12,13 @@ import zlib
 from dataclasses import replace
 
 from zaklimot.format import Picture
-from zaklimot_tools.images.holding import held, held_size
-from zaklimot_tools.images.png import Animation, ImageSize, Shape, block_lines
-from zaklimot_tools.images.reading import Image, image_of, size_of
-from zaklimot_tools.picture.asked import Fit
-from zaklimot_tools.picture.fitting import fitted
-from zaklimot_tools.picture.mode import MODES
-from zaklimot_tools.picture.words import main
+from zaklimot.commands.images.holding import held, held_size
+from zaklimot.commands.images.png import Animation, ImageSize, Shape, block_lines
+from zaklimot.commands.images.reading import Image, image_of, size_of
+from zaklimot.commands.picture.asked import Fit
+from zaklimot.commands.picture.fitting import fitted
+from zaklimot.commands.picture.mode import MODES
+from zaklimot.commands.picture.words import main
 
 from .test_images import png
 from .test_picture import MANY, made_of, png_of, ppm_of

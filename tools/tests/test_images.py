@@ -13,9 +13,9 @@ import zlib
 from typing import Optional
 
 from zaklimot.format import Picture, parse_text
-from zaklimot_tools.explain.clocks import USUAL, Registers
-from zaklimot_tools.images.png import MARK, Shape, chunk, write_png
-from zaklimot_tools.images.reading import image_of
+from zaklimot.commands.explain.clocks import USUAL, Registers
+from zaklimot.commands.images.png import MARK, Shape, chunk, write_png
+from zaklimot.commands.images.reading import image_of
 
 from .test_command import PICTURE, run
 from .tools import (

@@ -16,9 +16,9 @@ from hashlib import sha256
 from pathlib import Path
 from unittest import mock
 
-from zaklimot_tools.report.debugging import PAGE
-from zaklimot_tools.trace import converting, inpage, keeper, replaying
-from zaklimot_tools.trace.asked import SPEEDS, USUAL_SPEED, Deed
+from zaklimot.commands.report.debugging import PAGE
+from zaklimot.commands.trace import converting, inpage, keeper, replaying
+from zaklimot.commands.trace.asked import SPEEDS, USUAL_SPEED, Deed
 
 from .tools import (
     PROGRAM as TESTED,

@@ -15,12 +15,12 @@ from pathlib import Path
 from typing import Any
 from unittest import mock
 
-from zaklimot_tools.core.progress import Progress
-from zaklimot_tools.script.words import FONTS
-from zaklimot_tools.trace import container
-from zaklimot_tools.trace.container import keep, unpacked
-from zaklimot_tools.trace.judging import Judging
-from zaklimot_tools.trace.note import digests_of, note_of
+from zaklimot.commands.core.progress import Progress
+from zaklimot.commands.script.words import FONTS
+from zaklimot.commands.trace import container
+from zaklimot.commands.trace.container import keep, unpacked
+from zaklimot.commands.trace.judging import Judging
+from zaklimot.commands.trace.note import digests_of, note_of
 
 from .tools import (
     PROGRAM,

@@ -8,17 +8,17 @@ import subprocess
 import sys
 from pathlib import Path
 
-from zaklimot_tools.script.library import NAMED
-from zaklimot_tools.script.portable import portable_library
+from zaklimot.commands.script.library import NAMED
+from zaklimot.commands.script.portable import portable_library
 
 from .tools import TOOLS, Folder, want_library
 
 # Loads the library where a release has one at a place, and tells which, and what is named then.
 LOADS = f"""import os, pathlib, sys
-import zaklimot_tools
+import zaklimot.commands
 import zaklimot
-from zaklimot_tools.core.trouble import Trouble
-from zaklimot_tools.script import library
+from zaklimot.commands.core.trouble import Trouble
+from zaklimot.commands.script import library
 library.RELEASED = pathlib.Path(sys.argv[1])
 try:
     library.use_library()

@@ -6,11 +6,11 @@ from __future__ import annotations
 import unittest
 from pathlib import Path
 
-from zaklimot_tools.script.words import FONTS
-from zaklimot_tools.trace.cells import code_page, look_of, text_of
-from zaklimot_tools.trace.colourfiles import plane_pictures, starts_of_pages
-from zaklimot_tools.trace.finding import found_in
-from zaklimot_tools.trace.state import State
+from zaklimot.commands.script.words import FONTS
+from zaklimot.commands.trace.cells import code_page, look_of, text_of
+from zaklimot.commands.trace.colourfiles import plane_pictures, starts_of_pages
+from zaklimot.commands.trace.finding import found_in
+from zaklimot.commands.trace.state import State
 
 from .test_seeing import Seen
 from .tools import PROGRAM, hold, hold_undone, png_rows, run_tool, takes_long

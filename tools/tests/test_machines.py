@@ -10,7 +10,7 @@ from typing import Any
 from xml.etree import ElementTree
 
 from zaklimot.format import REGISTERS
-from zaklimot_tools.steps.checking import (
+from zaklimot.commands.steps.checking import (
     BranchCounts,
     BranchName,
     Branches,
@@ -20,12 +20,12 @@ from zaklimot_tools.steps.checking import (
     ranked,
     worst,
 )
-from zaklimot_tools.steps.comparing import differences
-from zaklimot_tools.steps.kinds import KINDS
-from zaklimot_tools.steps.parts import BDA, BEAM, FINAL, INITIAL, Element
-from zaklimot_tools.steps.readback import readback_lines
-from zaklimot_tools.steps.reading import fault_of, read_elements
-from zaklimot_tools.steps.rules import RULES
+from zaklimot.commands.steps.comparing import differences
+from zaklimot.commands.steps.kinds import KINDS
+from zaklimot.commands.steps.parts import BDA, BEAM, FINAL, INITIAL, Element
+from zaklimot.commands.steps.readback import readback_lines
+from zaklimot.commands.steps.reading import fault_of, read_elements
+from zaklimot.commands.steps.rules import RULES
 
 from .stepping import GOOD, STEPS_EXAMPLES, steps
 from .tools import Folder, hold

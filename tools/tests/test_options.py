@@ -9,8 +9,8 @@ import os
 from functools import partial
 from urllib.parse import unquote
 
-from zaklimot_tools.report.debugging import DOCS, page_data
-from zaklimot_tools.report.words import parser
+from zaklimot.commands.report.debugging import DOCS, page_data
+from zaklimot.commands.report.words import parser
 
 from .tools import BLACK, Folder, ppm, report, run_tool
 

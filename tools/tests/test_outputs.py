@@ -11,7 +11,7 @@ import unittest
 from concurrent.futures import ThreadPoolExecutor
 from typing import Optional
 
-from zaklimot_tools.core.streams import counted
+from zaklimot.commands.core.streams import counted
 
 from .tools import BLACK, EXAMPLES, PROGRAM, RED, WHITE, Folder, hold, ppm, run_tool, want_program
 

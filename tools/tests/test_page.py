@@ -16,10 +16,10 @@ from typing import Any, Mapping, Optional
 from unittest import mock
 from urllib.parse import unquote, urljoin
 
-from zaklimot_tools.core.trouble import Trouble, Wrong
-from zaklimot_tools.core.version import HEADER, calls_of
-from zaklimot_tools.dev.page import command, editor, machine, making, page, sections
-from zaklimot_tools.dev.page.making import (
+from zaklimot.commands.core.trouble import Trouble, Wrong
+from zaklimot.commands.core.version import HEADER, calls_of
+from zaklimot_dev.page import command, editor, machine, making, page, sections
+from zaklimot_dev.page.making import (
     LAYOUTS,
     OF_C,
     OF_PAGE,
@@ -28,10 +28,10 @@ from zaklimot_tools.dev.page.making import (
     retargeted,
     with_kit,
 )
-from zaklimot_tools.dev.page.packing import about, packed
-from zaklimot_tools.dev.page.weighing import weights
-from zaklimot_tools.dev.page.words import MOST_BYTES
-from zaklimot_tools.dev.page.page import (
+from zaklimot_dev.page.packing import about, packed
+from zaklimot_dev.page.weighing import weights
+from zaklimot_dev.page.words import MOST_BYTES
+from zaklimot_dev.page.page import (
     DATA,
     MADE,
     SCRIPT,
@@ -42,9 +42,9 @@ from zaklimot_tools.dev.page.page import (
     make_page,
     page_text,
 )
-from zaklimot_tools.dev.page_tests import command as tests_command
-from zaklimot_tools.report import debugging
-from zaklimot_tools.report.debugging import DOCS, PAGE, data_element, page_data
+from zaklimot_dev.page_tests import command as tests_command
+from zaklimot.commands.report import debugging
+from zaklimot.commands.report.debugging import DOCS, PAGE, data_element, page_data
 
 from .running import Fake
 from .test_command import PICTURE, run

@@ -14,19 +14,20 @@ from typing import Iterator
 from unittest import mock
 
 from zaklimot import Script, format
-from zaklimot_tools.core.trouble import Wrong
-from zaklimot_tools.dev.page.page import examples
-from zaklimot_tools.dev.page.weighing import table_of, weights
-from zaklimot_tools.dev.page.words import MOST_BYTES as MOST_PAGE_BYTES
-from zaklimot_tools.dev.page_tests import command
-from zaklimot_tools.report.cases import read_cases
-from zaklimot_tools.report.places import SUITE
-from zaklimot_tools.script.words import FONTS
+from zaklimot.commands.core.trouble import Wrong
+from zaklimot_dev.page.page import examples
+from zaklimot_dev.page.weighing import table_of, weights
+from zaklimot_dev.page.words import MOST_BYTES as MOST_PAGE_BYTES
+from zaklimot_dev.page_tests import command
+from zaklimot.commands.report.cases import read_cases
+from zaklimot.commands.report.places import SUITE
+from zaklimot.commands.script.words import FONTS
 
 from .tools import (
     patched,
     main_of,
     EXAMPLES,
+    PACKAGE,
     TOOLS,
     TOP,
     Folder,
@@ -46,7 +47,7 @@ FENCE = re.compile(r"^ *(```|~~~)")
 OUTSIDE = ("http:", "https:", "mailto:")
 # How a command of the repository begins. In prose its path stands between back quotes.
 COMMAND = re.compile(r"(?:\$ )?(?:tools|crates|bench|examples|page|\.ci)/\S+( |$)")
-PACKAGE = TOOLS / "zaklimot_tools"
+DEV = TOOLS / "zaklimot_dev"
 TUTORIAL = TOP / "docs" / "TUTORIAL.md"
 TEXT = TUTORIAL.read_text("utf-8")
 SCRIPTS = EXAMPLES / "tutorial"
@@ -371,7 +372,7 @@ class Tutorial(unittest.TestCase):
                 self.assertEqual(call(main_of("vga-page-tests"), "--browser")[0], 1)
 
     def test_the_program_writes_the_script(self) -> None:
-        environment = {**os.environ, "PYTHONPATH": str(TOP / "bindings" / "python" / "src")}
+        environment = {**os.environ, "PYTHONPATH": str(TOP / "python")}
         status, output, said = ended(sys.executable, "-B", CIRCLE, env=environment)
         self.assertEqual((status, said), (0, ""))
         self.assertTrue(
@@ -551,18 +552,17 @@ class Modules(unittest.TestCase):
     there."""
 
     NAMED = re.compile(
-        r"from (zaklimot_tools[\w.]*)\.(\w+) import"
-        r"|tools/((?:\w+/)+\w+\.(?:py|css|js|mjs|c|json))\b"
+        r"from (zaklimot(?:_dev|\.commands)[\w.]*)\.(\w+) import"
+        r"|\b((?:tools|python)/(?:\w+/)+\w+\.(?:py|css|js|mjs|c|json))\b"
     )
 
     def test_tables_have_them_all(self) -> None:
         form = r"(?m)^\| Module of `([\w.]+)` \|.*\n\|---\|---\|\n((?:\|.*\n)+)"
         tables = dict(re.findall(form, (TOOLS / "README.md").read_text("utf-8")))
-        folders = {path.parent for path in PACKAGE.glob("*/**/__init__.py")}
-        self.assertEqual(
-            set(tables) - {"zaklimot.format"},
-            {".".join(folder.relative_to(PACKAGE).parts) for folder in folders},
-        )
+        own = {path.parent: path.parent.name for path in PACKAGE.glob("*/__init__.py")}
+        dev = {path.parent: f"dev.{path.parent.name}" for path in DEV.glob("*/__init__.py")}
+        folders = {name: folder for folder, name in {**own, **dev, DEV: "dev"}.items()}
+        self.assertEqual(set(tables) - {"zaklimot.format"}, set(folders))
         del tables["zaklimot.format"]
         for name, rows in tables.items():
             named = re.findall(
@@ -570,7 +570,7 @@ class Modules(unittest.TestCase):
             )
             there = [
                 path.stem
-                for path in PACKAGE.joinpath(*name.split(".")).glob("[!_]*")
+                for path in folders[name].glob("[!_]*")
                 if path.is_file() and path.suffix in (".py", "")
             ]
             self.assertEqual(sorted(named), sorted(there), name)
@@ -582,8 +582,9 @@ class Modules(unittest.TestCase):
         files = [path for end in ends for path in TOP.glob(f"[!.ct]*/**/*.{end}")]
         for path in files:
             for package, module, file in self.NAMED.findall(path.read_text("utf-8", "replace")):
-                named = file or f"{package.replace('.', '/')}/{module}.py"
+                folder = "tools" if package.startswith("zaklimot_dev") else "python"
+                named = file or f"{folder}/{package.replace('.', '/')}/{module}.py"
                 with self.subTest(path.relative_to(TOP), module=named):
-                    self.assertTrue((TOP / "tools" / named).is_file())
+                    self.assertTrue((TOP / named).is_file())
                     seen += 1
         self.assertGreater(seen, 20)

@@ -15,13 +15,13 @@ from pathlib import Path
 from typing import Iterator, NamedTuple, Optional, Sequence
 
 from zaklimot.format import Picture, Step, encode, parse_text
-from zaklimot_tools.core.trouble import Trouble
-from zaklimot_tools.images.png import write_png
-from zaklimot_tools.images.reading import Image
-from zaklimot_tools.picture import steps
-from zaklimot_tools.picture.asked import Fewer
-from zaklimot_tools.picture.cells import FONTS_AT, Chooser, Chosen
-from zaklimot_tools.picture.colours import (
+from zaklimot.commands.core.trouble import Trouble
+from zaklimot.commands.images.png import write_png
+from zaklimot.commands.images.reading import Image
+from zaklimot.commands.picture import steps
+from zaklimot.commands.picture.asked import Fewer
+from zaklimot.commands.picture.cells import FONTS_AT, Chooser, Chosen
+from zaklimot.commands.picture.colours import (
     Colour,
     Nearest,
     WAYS,
@@ -32,11 +32,11 @@ from zaklimot_tools.picture.colours import (
     outer_colours,
     spread_colours,
 )
-from zaklimot_tools.picture.words import main
-from zaklimot_tools.picture.mode import MODES
-from zaklimot_tools.picture.screen import MASKS, least_writes
-from zaklimot_tools.picture.steps import Item, Part, write_script
-from zaklimot_tools.script.words import FONTS
+from zaklimot.commands.picture.words import main
+from zaklimot.commands.picture.mode import MODES
+from zaklimot.commands.picture.screen import MASKS, least_writes
+from zaklimot.commands.picture.steps import Item, Part, write_script
+from zaklimot.commands.script.words import FONTS
 
 from .test_images import png
 from .tools import (

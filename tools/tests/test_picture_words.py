@@ -6,10 +6,10 @@ import tempfile
 from argparse import ArgumentTypeError
 from unittest import mock
 
-from zaklimot_tools.core.progress import Progress
-from zaklimot_tools.picture import steps
-from zaklimot_tools.picture.cells import FONTS_AT
-from zaklimot_tools.picture.words import colour, main
+from zaklimot.commands.core.progress import Progress
+from zaklimot.commands.picture import steps
+from zaklimot.commands.picture.cells import FONTS_AT
+from zaklimot.commands.picture.words import colour, main
 
 from .test_images import png
 from .test_picture import BLACK, FONT, RED, WHITE, glyph_lines, made_of, png_of, ppm_of
@@ -38,7 +38,7 @@ class Words(Folder):
         ):
             progress = mock.create_autospec(Progress, instance=True)
             progress.is_due.return_value = True
-            with mock.patch("zaklimot_tools.core.cli.Progress", return_value=progress):
+            with mock.patch("zaklimot.commands.core.cli.Progress", return_value=progress):
                 self.assertEqual(call(main, *words, *more)[0], 0)
             told = [given.args[0] for given in progress.tell.call_args_list]
             wanted = [f"{done:,} of {cells:,} cells" for done in range(1, cells + 1)] * times

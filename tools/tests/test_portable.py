@@ -21,13 +21,13 @@ from unittest import mock
 
 from zaklimot.format import FORMS
 from zaklimot.format.table import END_CODE, REPEAT_CODE
-from zaklimot_tools.core.files import files_of_run
-from zaklimot_tools.core.trouble import Trouble
-from zaklimot_tools.dev.testing.running import BUILT
-from zaklimot_tools.script import portable, program
-from zaklimot_tools.script.portable import portable_library, portable_program
-from zaklimot_tools.script.program import built_program, found_program
-from zaklimot_tools.script.program import PROGRAM as BUILT_PROGRAM
+from zaklimot.commands.core.files import files_of_run
+from zaklimot.commands.core.trouble import Trouble
+from zaklimot_dev.testing.running import BUILT
+from zaklimot.commands.script import portable, program
+from zaklimot.commands.script.portable import portable_library, portable_program
+from zaklimot.commands.script.program import built_program, found_program
+from zaklimot.commands.script.program import PROGRAM as BUILT_PROGRAM
 
 from . import commands
 from .tools import SIGNALS, TOP, Folder, begin, hold_refused, patched, refused, takes_long

@@ -9,7 +9,7 @@ import shutil
 import sys
 from typing import Callable, NamedTuple
 
-from zaklimot_tools.core import progress
+from zaklimot.commands.core import progress
 
 from .answers import given_files
 from .tools import PROGRAM, RED, Folder, ppm, report, run_tool, takes_long, want_program

@@ -4,11 +4,11 @@ reference says of each. No number here comes of the code."""
 import unittest
 from typing import Callable, Iterator, Mapping, NamedTuple, Sequence
 
-from zaklimot_tools.explain import raster
-from zaklimot_tools.steps.dot_kinds import counters_of
-from zaklimot_tools.trace.cells import cells_of
-from zaklimot_tools.trace.fontfiles import FONT_PLANE, font_of, usual_map
-from zaklimot_tools.trace.state import State
+from zaklimot.commands.explain import raster
+from zaklimot.commands.steps.dot_kinds import counters_of
+from zaklimot.commands.trace.cells import cells_of
+from zaklimot.commands.trace.fontfiles import FONT_PLANE, font_of, usual_map
+from zaklimot.commands.trace.state import State
 
 # How many registers the CRT controller, the sequencer and the graphics controller have.
 CRTC = 25

@@ -18,15 +18,15 @@ from typing import Any
 from unittest import mock
 
 from zaklimot.format import Picture
-from zaklimot_tools.dev.emulators.traces import row as row_of
-from zaklimot_tools.trace import converting, keeper as keeping, recording
-from zaklimot_tools.trace.converting import Checked, Checking, Written
-from zaklimot_tools.trace.asked import Deed
-from zaklimot_tools.trace.note import Note, note_of
-from zaklimot_tools.trace.parts import Parts
-from zaklimot_tools.trace.recording import PHASES, QemuMachine, Session
-from zaklimot_tools.trace.replaying import Replay
-from zaklimot_tools.trace.trace import SCREEN
+from zaklimot_dev.emulators.traces import row as row_of
+from zaklimot.commands.trace import converting, keeper as keeping, recording
+from zaklimot.commands.trace.converting import Checked, Checking, Written
+from zaklimot.commands.trace.asked import Deed
+from zaklimot.commands.trace.note import Note, note_of
+from zaklimot.commands.trace.parts import Parts
+from zaklimot.commands.trace.recording import PHASES, QemuMachine, Session
+from zaklimot.commands.trace.replaying import Replay
+from zaklimot.commands.trace.trace import SCREEN
 
 from .tools import (
     BLACK,

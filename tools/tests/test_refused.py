@@ -10,8 +10,8 @@ from functools import partial
 from pathlib import Path
 from typing import Any, Callable
 
-from zaklimot_tools.images import others
-from zaklimot_tools.dev.emulators.table_page import FIRST_MARK, LAST_MARK
+from zaklimot.commands.images import others
+from zaklimot_dev.emulators.table_page import FIRST_MARK, LAST_MARK
 
 from .floppy import machine
 from .test_images import png

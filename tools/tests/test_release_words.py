@@ -12,11 +12,11 @@ from pathlib import Path
 from typing import Any, Optional
 from unittest import mock
 
-from zaklimot_tools.core.version import version
-from zaklimot_tools.dev.library.making import AARCH64, X86_64, Target
-from zaklimot_tools.dev.release import command as release, stepping
-from zaklimot_tools.dev.release.command import Commit, Entry, File
-from zaklimot_tools.script.library import NAMED
+from zaklimot.commands.core.version import version
+from zaklimot_dev.library.making import AARCH64, X86_64, Target
+from zaklimot_dev.release import command as release, stepping
+from zaklimot_dev.release.command import Commit, Entry, File
+from zaklimot.commands.script.library import NAMED
 
 from .tools import Folder, call, ended, hold_undone, main_of, patched, refused
 

@@ -13,18 +13,18 @@ from typing import Sequence
 from unittest import mock
 
 from zaklimot.format import Picture
-from zaklimot_tools.images.reading import image_of
-from zaklimot_tools.script.words import FONTS
-from zaklimot_tools.trace import keeper as keeping, parts
-from zaklimot_tools.trace.beamed import Beamed
-from zaklimot_tools.trace.clocked import Clocked
-from zaklimot_tools.trace.folding import Folding
-from zaklimot_tools.trace.keeper import Keeper
-from zaklimot_tools.trace.parts import Parts, parts_of
-from zaklimot_tools.trace.replaying import ALLOWED, PAGE, SEEN, Screen, whole_rows
-from zaklimot_tools.trace.state import State
-from zaklimot_tools.trace.step import ADVANCE, FRAME, IN, INT, OUT, OUTW, PUT, TraceStep
-from zaklimot_tools.trace.trace import SCREEN, Call, opened
+from zaklimot.commands.images.reading import image_of
+from zaklimot.commands.script.words import FONTS
+from zaklimot.commands.trace import keeper as keeping, parts
+from zaklimot.commands.trace.beamed import Beamed
+from zaklimot.commands.trace.clocked import Clocked
+from zaklimot.commands.trace.folding import Folding
+from zaklimot.commands.trace.keeper import Keeper
+from zaklimot.commands.trace.parts import Parts, parts_of
+from zaklimot.commands.trace.replaying import ALLOWED, PAGE, SEEN, Screen, whole_rows
+from zaklimot.commands.trace.state import State
+from zaklimot.commands.trace.step import ADVANCE, FRAME, IN, INT, OUT, OUTW, PUT, TraceStep
+from zaklimot.commands.trace.trace import SCREEN, Call, opened
 
 from .test_recording import picture_of
 from .tools import (

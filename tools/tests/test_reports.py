@@ -8,7 +8,7 @@ import re
 from functools import partial
 from unittest import mock
 
-from zaklimot_tools.report import page
+from zaklimot.commands.report import page
 
 from .tools import BLACK, RED, WHITE, Folder, hold, hold_undone, png_rows, ppm, report, run_tool
 

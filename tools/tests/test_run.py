@@ -17,11 +17,11 @@ from pathlib import Path
 from unittest import mock
 
 from zaklimot.format import Answer
-from zaklimot_tools.core.progress import Progress
-from zaklimot_tools.report.expecting import is_as_expected
-from zaklimot_tools.report.listing import Blessing, Row, chosen
-from zaklimot_tools.report.words import parser
-from zaklimot_tools.script import program
+from zaklimot.commands.core.progress import Progress
+from zaklimot.commands.report.expecting import is_as_expected
+from zaklimot.commands.report.listing import Blessing, Row, chosen
+from zaklimot.commands.report.words import parser
+from zaklimot.commands.script import program
 
 from .running import TEXT, Fake, run
 from .tools import TOP, ended, hold, hold_refused, hold_undone
@@ -513,7 +513,7 @@ class Calls(Fake):
         return sum(entry.callcount for entry in profile.getstats())  # type: ignore[attr-defined]
 
     def test_of_a_step(self) -> None:
-        with mock.patch("zaklimot_tools.report.listing._wait_for") as waited:
+        with mock.patch("zaklimot.commands.report.listing._wait_for") as waited:
             self.calls("get 0\n")
         waited.assert_called_once()
         for line in ("out 3c4 2\n", "put b8000 55\n", "get 0 ; a comment\n", "in 3da\n"):

@@ -12,17 +12,17 @@ from pathlib import Path
 from unittest import mock
 
 from zaklimot.format import HEADERS, Answer, Step
-from zaklimot_tools.core.progress import Progress
-from zaklimot_tools.script.words import FONTS
-from zaklimot_tools.trace import walking
-from zaklimot_tools.trace.cells import cells_of, code_page, entry_of, look_of, text_of
-from zaklimot_tools.trace.colourfiles import starts_of_pages
-from zaklimot_tools.trace.finding import Finder
-from zaklimot_tools.trace.rebuilding import steps_behind
-from zaklimot_tools.trace.step import IN, TraceStep
-from zaklimot_tools.trace.told import Told, state_asked
-from zaklimot_tools.trace.trace import SCREEN, Call
-from zaklimot_tools.trace.walking import Item, Question, Walk
+from zaklimot.commands.core.progress import Progress
+from zaklimot.commands.script.words import FONTS
+from zaklimot.commands.trace import walking
+from zaklimot.commands.trace.cells import cells_of, code_page, entry_of, look_of, text_of
+from zaklimot.commands.trace.colourfiles import starts_of_pages
+from zaklimot.commands.trace.finding import Finder
+from zaklimot.commands.trace.rebuilding import steps_behind
+from zaklimot.commands.trace.step import IN, TraceStep
+from zaklimot.commands.trace.told import Told, state_asked
+from zaklimot.commands.trace.trace import SCREEN, Call
+from zaklimot.commands.trace.walking import Item, Question, Walk
 
 from .tools import (
     EXAMPLES,

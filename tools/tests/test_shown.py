@@ -11,10 +11,10 @@ from unittest import mock
 from xml.etree import ElementTree
 
 from zaklimot.format import Answer, Picture
-from zaklimot_tools.report.expecting import is_as_expected
-from zaklimot_tools.report.listing import Row, chosen
-from zaklimot_tools.report.modes import StepList
-from zaklimot_tools.report.words import parser
+from zaklimot.commands.report.expecting import is_as_expected
+from zaklimot.commands.report.listing import Row, chosen
+from zaklimot.commands.report.modes import StepList
+from zaklimot.commands.report.words import parser
 
 from .running import Fake
 from .tools import PROGRAM, RED, begin, hold, hold_refused, png_rows, run_tool, want_program
@@ -142,7 +142,7 @@ class Together(Fake):
             tally = mock.Mock(pictures=pictures, differing=lambda: ())
             with (
                 mock.patch("sys.stdout.isatty", lambda: is_terminal),
-                mock.patch("zaklimot_tools.report.modes.say") as say,
+                mock.patch("zaklimot.commands.report.modes.say") as say,
                 mock.patch.dict(os.environ, COLORTERM=colours),
             ):
                 StepList(words, mock.Mock(), mock.Mock()).end(tally)
@@ -152,7 +152,7 @@ class Together(Fake):
         words = parser().parse_args(["run", "s.vga"])
         told: list[str] = []
         progress = mock.Mock(is_wanted=True, clear=lambda: told.append("cleared"))
-        with mock.patch("zaklimot_tools.report.modes.write", told.append):
+        with mock.patch("zaklimot.commands.report.modes.write", told.append):
             shown = StepList(words, told.append, progress)
             shown.begin(18)
             for at in (1, 2):

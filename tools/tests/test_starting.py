@@ -12,9 +12,9 @@ import unittest
 from pathlib import Path
 from unittest import mock
 
-from zaklimot_tools import starting
+from zaklimot.commands import starting
 
-from .tools import MAIN, NAMES, TOOLS, Folder, ended
+from .tools import MAIN, MODULES, NAMES, TOOLS, TOP, Folder, ended
 
 # Seconds after which Ctrl-C comes: from before the shell has begun until after Python has.
 MOMENTS = [number / 50 for number in range(20)]
@@ -73,7 +73,7 @@ class Starting(Folder):
         tool = self.write("tool", (TOOLS / "vga-steps").read_text("ascii"))
         text = re.sub(r'start\("[\w.]+"\)', 'start("shown")', Path(tool).read_text("ascii"))
         os.chmod(self.write("tool", text), 0o755)
-        given = {**os.environ, "PYTHONPATH": f"{Path(module).parent}:{TOOLS}"}
+        given = {**os.environ, "PYTHONPATH": f"{Path(module).parent}:{MODULES}"}
         self.assertEqual(ended(tool, env=given), (0, "set()\n", ""))
 
     def test_an_env_that_lets_no_signal_wait(self) -> None:
@@ -89,8 +89,8 @@ class Starting(Folder):
         self.assertEqual((status, said), (2, "vga-report: a  $b \"c': No such file or directory\n"))
 
     def test_the_commands_of_pip_are_the_tools_of_their_names(self) -> None:
-        text = (TOOLS / "pyproject.toml").read_text("ascii")
-        listed = re.findall(r'^(vga-\w+) = "zaklimot_tools\.starting:(\w+)"$', text, re.M)
+        text = (TOP / "python" / "pyproject.toml").read_text("ascii")
+        listed = re.findall(r'^(vga-\w+) = "zaklimot\.commands\.starting:(\w+)"$', text, re.M)
         self.assertEqual(len(listed), 5)
         for name, function in listed:
             with mock.patch.object(starting, "start", return_value=7) as start:

@@ -19,18 +19,18 @@ from typing import Any, Iterator, Optional
 from unittest import mock
 
 from zaklimot.format import Step, decode
-from zaklimot_tools.steps.adapter import SteppedCard
-from zaklimot_tools.steps.chance import Chance
-from zaklimot_tools.steps.comparing import differences
-from zaklimot_tools.steps.confirming import MOST_TOLD
-from zaklimot_tools.steps.kinds import KINDS
-from zaklimot_tools.steps.library import load
-from zaklimot_tools.steps.parts import BDA, BEAM, FINAL, INITIAL, ORDER, Element
-from zaklimot_tools.steps.readback import readback_lines, state_read
-from zaklimot_tools.steps.reading import STEPS, fault_of, read_elements
-from zaklimot_tools.steps.rules import RULES, branches_shown
-from zaklimot_tools.steps.scripts import confirming, expected_answer, reached, text_lines
-from zaklimot_tools.script.words import FONTS
+from zaklimot.commands.steps.adapter import SteppedCard
+from zaklimot.commands.steps.chance import Chance
+from zaklimot.commands.steps.comparing import differences
+from zaklimot.commands.steps.confirming import MOST_TOLD
+from zaklimot.commands.steps.kinds import KINDS
+from zaklimot.commands.steps.library import load
+from zaklimot.commands.steps.parts import BDA, BEAM, FINAL, INITIAL, ORDER, Element
+from zaklimot.commands.steps.readback import readback_lines, state_read
+from zaklimot.commands.steps.reading import STEPS, fault_of, read_elements
+from zaklimot.commands.steps.rules import RULES, branches_shown
+from zaklimot.commands.steps.scripts import confirming, expected_answer, reached, text_lines
+from zaklimot.commands.script.words import FONTS
 
 from . import branches
 from .stepping import COUNT, GOOD, Made, SEED, STEPS_EXAMPLES, steps, told

@@ -6,10 +6,10 @@ import unittest
 from functools import partial
 from unittest import mock
 
-from zaklimot_tools.trace import trace as reading
-from zaklimot_tools.trace.converting import count
-from zaklimot_tools.trace.step import IN, OUT, TraceStep, steps_of, without_polls
-from zaklimot_tools.trace.trace import MEMORY, PORT, SCREEN, VBE, Call, Cycle
+from zaklimot.commands.trace import trace as reading
+from zaklimot.commands.trace.converting import count
+from zaklimot.commands.trace.step import IN, OUT, TraceStep, steps_of, without_polls
+from zaklimot.commands.trace.trace import MEMORY, PORT, SCREEN, VBE, Call, Cycle
 
 from .test_conversions import SHAPE
 from .tools import hold, refused

@@ -33,16 +33,19 @@ from typing import (
 )
 from unittest import mock
 
-from zaklimot_tools.core.trouble import Trouble
-from zaklimot_tools.dev.testing.running import BUILT, TESTED
-from zaklimot_tools.dev.testing.style import PYTHON as STARTING
-from zaklimot_tools.script.library import use_library
-from zaklimot_tools.script.program import PROGRAM as BUILT_PROGRAM
-from zaklimot_tools.script.words import FONTS
+from zaklimot.commands.core.trouble import Trouble
+from zaklimot_dev.testing.running import BUILT, TESTED
+from zaklimot_dev.testing.style import PYTHON as STARTING
+from zaklimot.commands.script.library import use_library
+from zaklimot.commands.script.program import PROGRAM as BUILT_PROGRAM
+from zaklimot.commands.script.words import FONTS
 
 
 TOOLS = Path(__file__).resolve().parents[1]
 TOP = TOOLS.parent
+# The commands of users; and where Python finds these and the modules of the tools.
+PACKAGE = TOP / "python" / "zaklimot" / "commands"
+MODULES = f"{TOOLS}:{TOP / 'python'}"
 EXAMPLES = TOP / "examples"
 RED = b"\x3f\x00\x00"
 WHITE = b"\x3f\x3f\x3f"

@@ -6,9 +6,9 @@ from __future__ import annotations
 import io
 from functools import partial
 
-from zaklimot_tools.trace.converting import Listing
-from zaklimot_tools.trace.step import OUT, OUTW, TraceStep
-from zaklimot_tools.trace.trace import Cycle, Trace
+from zaklimot.commands.trace.converting import Listing
+from zaklimot.commands.trace.step import OUT, OUTW, TraceStep
+from zaklimot.commands.trace.trace import Cycle, Trace
 
 from .tools import run_tool
 
