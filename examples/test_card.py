@@ -1,5 +1,5 @@
 #!/usr/bin/env python3
-"""Draws a test card as PNG, for tools/vga-picture.
+"""Draws a test card as PNG, for examples/python/image.py.
 
     python3 examples/test_card.py WIDTHxHEIGHT FILE
 

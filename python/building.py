@@ -6,7 +6,7 @@ latter in any case. With ZAKLIMOT_PORTABLE=0 nothing is compiled: without ZAKLIM
 no library then, and the package looks for one when it is used.
 
 A wheel also carries what the commands read of the project: the program's sources in C, the font,
-the page and the suite. Shells find the completions of the commands in the environment's `share`.
+the page and the suite.
 """
 
 from __future__ import annotations
@@ -62,12 +62,6 @@ CARRIED = (
     "portable/zaklimot.c",
 )
 COMMANDS = f"{PACKAGE}/commands/carried"
-# Where shells look for the completions of a command, below `share`.
-COMPLETIONS = (
-    "bash-completion/completions/{}",
-    "zsh/site-functions/_{}",
-    "fish/vendor_completions.d/{}.fish",
-)
 # What a run or a build leaves among the sources, and never goes into a wheel.
 MADE = {"__pycache__", "carried"}
 LICENCE = "LICENSE"
@@ -306,19 +300,9 @@ def of_repository() -> dict[str, bytes]:
     return found
 
 
-def completions() -> dict[str, bytes]:
-    """The completions of the commands, by their places in the repository."""
-    places = [f"share/{form.format(name)}" for name in scripts() for form in COMPLETIONS]
-    return {place: taken(place).read_bytes() for place in places}
-
-
 def for_commands() -> dict[str, bytes]:
-    """What the commands and the shells read, by its places in a wheel."""
-    data = _information().replace(".dist-info", ".data") + "/data"
-    return {
-        **{f"{COMMANDS}/{place}": read for place, read in of_repository().items()},
-        **{f"{data}/{place}": read for place, read in completions().items()},
-    }
+    """What the commands read, by its places in a wheel."""
+    return {f"{COMMANDS}/{place}": read for place, read in of_repository().items()}
 
 
 def _record(files: Mapping[str, bytes], place: str) -> str:
@@ -405,8 +389,7 @@ def build_sdist(sdist_directory: str, config_settings: Any = None) -> str:
     own = ("pyproject.toml", "building.py", "needs.py", "README.md", LICENCE)
     files = {name: (HERE / name).read_bytes() for name in own}
     files.update(sources())
-    taken_along = {**of_repository(), **completions()}
-    files.update({f"{TOGETHER}/{place}": data for place, data in taken_along.items()})
+    files.update({f"{TOGETHER}/{place}": data for place, data in of_repository().items()})
     files["PKG-INFO"] = metadata().encode("utf-8")
     with open(Path(sdist_directory) / f"{stem}.tar.gz", "wb") as stream:
         with gzip.GzipFile(filename="", mode="wb", fileobj=stream, mtime=0) as packed:

@@ -1,4 +1,4 @@
-// What tools/vga-trace records of the page's machine is what the page's own window says of the same run.
+// What zaklimot trace records of the page's machine is what the page's own window says of the same run.
 import assert from "node:assert/strict";
 import { execFileSync } from "node:child_process";
 import { mkdtempSync, readFileSync, rmSync, writeFileSync } from "node:fs";

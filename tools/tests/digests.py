@@ -1,4 +1,4 @@
-"""The digests of what seeds make: of the elements of each kind by `vga-steps make`, with how often
+"""The digests of what seeds make: of the elements of each kind by `steps make`, with how often
 they show each branch of each rule; and of the inputs of `vga-fuzz`.
 
     cd tools && python3 -m tests.digests

@@ -1,4 +1,4 @@
-"""A machine for tests: boots an image of vga-floppy as boot.asm does, on an adapter that only
+"""A machine for tests: boots an image of `floppy make` as boot.asm does, on an adapter that only
 remembers."""
 
 from __future__ import annotations

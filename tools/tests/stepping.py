@@ -36,7 +36,7 @@ GOOD: Element = {
 
 def steps(*words: Any) -> tuple[int, str, str]:
     """Status, output and messages of the tool."""
-    status, output, said = run_tool("vga-steps", *map(str, words))
+    status, output, said = run_tool("zaklimot", "steps", *map(str, words))
     return status, output.decode(), said
 
 

@@ -1,6 +1,6 @@
-"""An adapter for `vga-steps check`: the portable C file, as it is or with one of some faults.
+"""An adapter for `zaklimot steps check`: the portable C file, as it is or with one of some faults.
 
-    tools/vga-steps check 'python3 tools/tests/steps_adapter.py [FAULT]' FILE..
+    ./zaklimot steps check 'python3 tools/tests/steps_adapter.py [FAULT]' FILE..
 
 A fault changes the state before or after a step: the adapter saves its state, changes bytes of it
 as docs/STATE.md lays them out, and restores it.

@@ -215,7 +215,7 @@ class Options(Folder):
             name = self.folder / "trace"
             self.assertEqual(status, 0)
             lines = said.splitlines()
-            self.assertEqual(lines[0], f"vga-trace: warning: {name}: 1 silence cut to {told}")
+            self.assertEqual(lines[0], f"zaklimot: warning: {name}: 1 silence cut to {told}")
             self.assertRegex(lines[1], r"^standard output: 3 pictures, \d\.\d{3} seconds$")
             self.assertEqual(png_rows(data)[:2], (4, 3))
         said = run("convert", "-", "-", "--frames", "clock", "--longest", "2", given=SILENT)[2]

@@ -60,7 +60,7 @@ class Tables(Folder):
 
     def results(self, name: str, words: str, *rules: dict[str, Any]) -> str:
         """A file of what the suite printed of an emulator."""
-        told = {"command": f"tools/vga-floppy run {words} {{script}}", "rules": rules}
+        told = {"command": f"zaklimot floppy run {words} {{script}}", "rules": rules}
         return self.write(name, json.dumps(told))
 
     def table(self, *results: str) -> tuple[int, str, str]:
@@ -171,7 +171,9 @@ class Tables(Folder):
         before = self.page.read_bytes()
         for words in ("--on nothing", "--bios sea"):
             other = self.results("two", words, rule("R.", case("a/1", "agrees", 1)))
-            told = f"^vga-emulators: {other}: its command is no `vga-floppy run --on` of an emul"
+            told = (
+                f"^vga-emulators: {other}: its command is no `zaklimot floppy run --on` of an emul"
+            )
             hold_undone(self, self.table(one, other), told)
         self.assertEqual(self.page.read_bytes(), before)
 

@@ -345,7 +345,7 @@ class Checking(Made):
         for number, status in SIGNALS:
             with self.subTest(number):
                 notes.unlink(missing_ok=True)
-                with begin("vga-steps", *words) as process:
+                with begin("zaklimot", "steps", *words) as process:
                     numbers = [int(word) for word in self.wait_for(notes, process).split()]
                     process.send_signal(number)
                     output, said = process.communicate(timeout=60)

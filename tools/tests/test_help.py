@@ -25,21 +25,33 @@ from zaklimot.commands.floppy.asked import EMULATORS
 from zaklimot.commands.floppy.running import MACHINES
 
 from .test_pages import pages
-from .tools import MAIN, MODULES, NAMES, PYTHON, TOOLS, TOP, call, ended, hold_undone, main_of
+from .tools import (
+    COMMAND,
+    MAIN,
+    MODULES,
+    NAMES,
+    PYTHON,
+    TOP,
+    call,
+    ended,
+    hold_undone,
+    main_of,
+    path_of,
+)
 
 
 # What may be loaded for a help: what all tools have in common, and modules of words alone.
 LIGHT = re.compile(
     r"^zaklimot(_dev(\.\w+)?(\.\w*words)?"
-    r"|\.commands(\.(starting|core(\.(cli|files|progress|signals|trouble|version|words))?"
-    r"|(script|images|report|trace|picture|floppy|steps)(\.(\w*words|asked|places|mode))?))?"
+    r"|\.commands(\.(starting|words|core(\.(cli|files|progress|signals|trouble|version|words))?"
+    r"|(script|images|report|trace|floppy|steps)(\.(\w*words|asked|places|mode))?))?"
     r"|\.format(\.\w+)?)?$"
 )
 
 
 def words_of(name: str) -> str:
     """The module that has the words of a tool."""
-    found = MAIN.search((TOOLS / name).read_text("utf-8"))
+    found = MAIN.search(path_of(name).read_text("utf-8"))
     assert found is not None, name
     return found[1]
 
@@ -48,11 +60,22 @@ def parsers_of(name: str) -> list[argparse.ArgumentParser]:
     """The parsers of a tool's commands, or that of the tool where it has none."""
     module = importlib.import_module(words_of(name))
     made = getattr(module, "parser", None) or getattr(module, "_parser")
-    parsers: list[argparse.ArgumentParser] = [made()]
-    for action in parsers[0]._actions:
+    return list(_ends(made()))
+
+
+def _ends(parser: argparse.ArgumentParser) -> Iterator[argparse.ArgumentParser]:
+    """The parsers below one that have no commands of their own, or itself."""
+    for action in parser._actions:
         if isinstance(action, argparse._SubParsersAction):
-            parsers = list(action.choices.values())
-    return parsers
+            for below in action.choices.values():
+                yield from _ends(below)
+            return
+    yield parser
+
+
+def called(name: str) -> str:
+    """How a help calls a tool: the command of users as it is where it is installed."""
+    return name if name == COMMAND else f"tools/{name}"
 
 
 # The defaults of options that a help tells by other words; of no others a text names the value.
@@ -78,7 +101,7 @@ class Words(unittest.TestCase):
                 self.assertRegex(
                     output,
                     (
-                        rf"Example:\n  tools/{name}\b(?s:.*)\nExit status: 0 .*; 2 the work can't"
+                        rf"Example:\n  {called(name)}\b(?s:.*)\nExit status: 0 .*; 2 the work can't"
                         r" be done\.\n"
                     ),
                 )
@@ -97,7 +120,7 @@ class Words(unittest.TestCase):
                 with self.subTest(name, command=command):
                     status, told, said = call(main_of(name), command, "--help")
                     self.assertEqual((status, said), (0, ""))
-                    self.assertRegex(told, rf"\nExample:\n  tools/{name} {command} ")
+                    self.assertRegex(told, rf"\nExample:\n  {called(name)} {command} ")
                     self.assert_told(told)
 
     def assert_told(self, told: str) -> None:
@@ -117,7 +140,7 @@ class Words(unittest.TestCase):
         self.assertEqual(binding_words.CHECKS, tuple(bindings.CHECKS))
 
     def test_the_suite_tells_the_places_of_its_command(self) -> None:
-        told = call(main_of("vga-report"), "suite", "--help")[1]
+        told = call(main_of("zaklimot"), "suite", "--help")[1]
         for place in ("{script}", "{fonts}", "{until}", "{name}"):
             self.assertIn(place, told)
 
@@ -142,7 +165,7 @@ class Words(unittest.TestCase):
 
     def test_a_tool_with_commands_wants_one(self) -> None:
         named = [name for name in NAMES if len(parsers_of(name)) > 1]
-        self.assertIn("vga-report", named)
+        self.assertIn("zaklimot", named)
         for name in named:
             told = "(?s)^usage: .*: error: the following arguments are required: COMMAND\n$"
             hold_undone(self, call(main_of(name)), told)
@@ -159,7 +182,7 @@ class Words(unittest.TestCase):
                     wanted = own or TOLD_OTHERWISE.get(told[1], told[1].replace(",", ""))
                     self.assertEqual(str(action.default), wanted)
                     held += 1
-        self.assertGreater(held, 50)
+        self.assertGreater(held, 40)
 
     def test_the_version_of_the_header_and_words_that_mean_nothing(self) -> None:
         for name in NAMES:
@@ -181,9 +204,7 @@ class Pages(unittest.TestCase):
         self.assertGreaterEqual(count, 100)
 
     def test_words_that_no_tool_takes_are_found(self) -> None:
-        text = (
-            "    cat r | tools/vga-report check r - > made &&\n    tools/vga-trace kinds --all t\n"
-        )
+        text = "    cat r | ./zaklimot check r - > made &&\n    ./zaklimot trace text --all t\n"
         found = [refusal_of(*tool) for line in lines_of_code(text) for tool in tools_in(line)]
         self.assertRegex(found[0], "invalid choice: 'check'")
         self.assertRegex(found[1], "unrecognized arguments: --all")
@@ -221,7 +242,8 @@ def tools_in(line: str) -> Iterator[tuple[str, list[str]]]:
     for is_between, some in groupby(words, lambda word: not {*word} - {*"|&;()"}):
         command = list(some)
         name = command[0].rpartition("/")[2]
-        if not is_between and name in NAMES:
+        # The library has the command's name, in lines for CMake.
+        if not is_between and name in NAMES and (name != COMMAND or "(" not in line):
             end = next((at for at, word in enumerate(command) if not {*word} - {*"<>"}), None)
             yield name, command[1:end]
 

@@ -11,7 +11,7 @@ from pathlib import Path
 from zaklimot.commands.script.library import NAMED
 from zaklimot.commands.script.portable import portable_library
 
-from .tools import TOOLS, Folder, want_library
+from .tools import TOP, Folder, want_library
 
 # Loads the library where a release has one at a place, and tells which, and what is named then.
 LOADS = f"""import os, pathlib, sys
@@ -42,7 +42,12 @@ class Loading(Folder):
         kept = {name: value for name, value in os.environ.items() if name != NAMED}
         words = [sys.executable, "-c", LOADS, released]
         done = subprocess.run(
-            words, cwd=TOOLS, env={**kept, **named}, capture_output=True, text=True, timeout=200
+            words,
+            cwd=TOP / "python",
+            env={**kept, **named},
+            capture_output=True,
+            text=True,
+            timeout=200,
         )
         self.assertEqual((done.returncode, done.stderr), (0, ""))
         return done.stdout.splitlines()

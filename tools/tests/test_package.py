@@ -15,9 +15,8 @@ from unittest import mock
 
 from zaklimot.commands import PARTS
 from zaklimot.commands.core.version import version
-from zaklimot_dev.completions.command import completions, tools
 
-from .tools import PACKAGE, PROGRAM, TOOLS, TOP, Folder, ended, want_program
+from .tools import PACKAGE, PROGRAM, TOP, Folder, ended, path_of, want_program
 
 
 PYTHON = TOP / "python"
@@ -85,13 +84,18 @@ class Parts(Folder):
 
     def test_a_tool_runs_from_any_folder_and_through_a_link(self) -> None:
         (self.folder / "there").mkdir()
-        for name in ("vga-report", "vga-trace", "vga-picture", "vga-floppy", "vga-steps"):
-            (self.folder / name).symlink_to(TOOLS / name)
+        for name in ("zaklimot", "vga-page"):
+            (self.folder / name).symlink_to(path_of(name))
             (self.folder / "there" / name).symlink_to(f"../{name}")
-            for path in (str(TOOLS / name), f"./{name}", f"there/{name}"):
+            for path in (str(path_of(name)), f"./{name}", f"there/{name}"):
                 with self.subTest(path):
                     done = ended(sys.executable, "-S", path, "--version", cwd=self.folder)
                     self.assertEqual(done, (0, f"{name} {version()}\n", ""))
+
+    def test_python_runs_the_package_as_the_command(self) -> None:
+        given = {**os.environ, "PYTHONPATH": str(PYTHON)}
+        done = ended(sys.executable, "-S", "-m", "zaklimot", "--version", env=given)
+        self.assertEqual(done, (0, f"zaklimot {version()}\n", ""))
 
 
 class Installed(Folder):
@@ -126,30 +130,22 @@ class Installed(Folder):
         python = [sys.executable, "-S", "-c", command]
         return ended(*python, *words[1:], cwd=self.folder, env=environment)
 
-    def test_the_commands_and_what_they_carry(self) -> None:
-        self.assertEqual(
-            sorted(self.starting),
-            ["vga-floppy", "vga-picture", "vga-report", "vga-steps", "vga-trace"],
-        )
-        for name in self.starting:
-            self.assertEqual(
-                self.run_installed(name, "--version"), (0, f"{name} {version()}\n", "")
-            )
-        (data,) = self.site.glob("*.data/data/share")
-        made = {place for tool in tools() for place in completions(tool)}
-        laid = {str(path.relative_to(data)) for path in data.rglob("*") if path.is_file()}
-        self.assertEqual(laid, made)
-        status, told, said = self.run_installed("vga-report", "scripts", "cases", "--only", "dots/")
+    def test_the_command_and_what_it_carries(self) -> None:
+        self.assertEqual([*self.starting], ["zaklimot"])
+        done = self.run_installed("zaklimot", "--version")
+        self.assertEqual(done, (0, f"zaklimot {version()}\n", ""))
+        words = ("suite", "--scripts", "cases", "--only", "dots/")
+        status, told, said = self.run_installed("zaklimot", *words)
         self.assertEqual((status, said), (0, ""))
         self.assertTrue((self.folder / told.split("\n")[0]).is_file())
 
     def test_a_script_is_run_and_a_page_is_written(self) -> None:
         want_program()
         self.write("one.vga", "in 3CC ; = 00\n")
-        done = self.run_installed("vga-report", "run", "one.vga", "--vga", str(PROGRAM), "--quiet")
+        done = self.run_installed("zaklimot", "run", "one.vga", "--vga", str(PROGRAM), "--quiet")
         self.assertEqual((done[0], done[2]), (0, ""))
         self.assertIn("1 of 1 answers as expected", done[1])
-        done = self.run_installed("vga-report", "run", "one.vga", "--debug", "page.html")
+        done = self.run_installed("zaklimot", "page", "one.vga", "page.html")
         self.assertEqual((done[0], done[2]), (0, ""))
         self.assertGreater((self.folder / "page.html").stat().st_size, 100_000)
 
@@ -161,5 +157,5 @@ class Installed(Folder):
         done = ended(sys.executable, *words, "--target", target, PYTHON, env=given)
         self.assertEqual((done[0], done[1]), (0, ""), done[2])
         environment = {**os.environ, "PYTHONPATH": str(target)}
-        done = ended(target / "bin" / "vga-report", "--version", env=environment)
-        self.assertEqual(done, (0, f"vga-report {version()}\n", ""))
+        done = ended(target / "bin" / "zaklimot", "--version", env=environment)
+        self.assertEqual(done, (0, f"zaklimot {version()}\n", ""))

@@ -431,7 +431,7 @@ class Blocks(Folder):
 
     def test_each_script_of_a_part_of_the_tutorial_has_its_file(self) -> None:
         script = "```\n{}\n```\n\n".format
-        file = "In a terminal: `tools/vga-report run examples/tutorial/{}.vga`.\n\n".format
+        file = "In a terminal: `./zaklimot run examples/tutorial/{}.vga`.\n\n".format
         one, other = script("frame"), script("; Bytes.\nin 3DA")
         front = f"# T\n\n## Two\n\n{one}{file('one')}{other}"
         made = page.tutorial(front + file("b-c"))

@@ -21,7 +21,6 @@ from zaklimot.commands.core.words import MOST_SCALE, MOST_SECONDS, number_to, se
 from zaklimot.commands.explain.mistakes import marked_lines, mistake_in
 from zaklimot.commands.floppy.image import read_image, read_record
 from zaklimot.commands.images.words import within
-from zaklimot.commands.picture.words import colour
 from zaklimot.commands.report.expecting import dumps_in, expected_in
 from zaklimot.commands.steps.reading import fault_of, read_elements
 from zaklimot.commands.steps.rules import branches_shown
@@ -108,8 +107,6 @@ class Properties(unittest.TestCase):
         time = self.holds(lambda: seconds(word), refusal)
         self.assertTrue(time is None or 0 < time <= MOST_SECONDS)
         self.holds(lambda: within(word), refusal)
-        dot = self.holds(lambda: colour(word), refusal)
-        self.assertTrue(dot is None or len(dot) == 3)
 
     @tried
     @given(texts)

@@ -16,7 +16,6 @@ from zaklimot.commands.explain.clocks import MODES, Registers
 from zaklimot.commands.explain.faults import explained
 from zaklimot.commands.explain.mistakes import Mistake, marked_lines, mistake_in
 from zaklimot.commands.explain.reasons import Reasons, bytes_of
-from zaklimot.commands.picture.mode import MODES as DRAWN
 
 from .tools import Folder, hold, run_texts, want_library
 
@@ -501,9 +500,3 @@ class Modes(unittest.TestCase):
                 for name in ("miscellaneous output", "1 clocking mode", "6 miscellaneous")
             )
             self.assertEqual((mode.misc, mode.clocking, mode.map), (misc, clocking, window >> 2))
-
-    def test_the_pixels_of_what_is_drawn(self) -> None:
-        sizes = dict(zip((f"{mode:02X}" for mode in MODES), self.ROWS["pixels"]))
-        for name, mode in DRAWN.items():
-            told = f"{mode.width} by {mode.height}"
-            self.assertEqual(sizes[name.rjust(2, "0")], told, name)

@@ -247,7 +247,7 @@ class Parts(Folder):
                 (FRONT, b"[a](docs/A.md) [b](README.md#d)", b"[a](A.md) [b](README.md#d)"),
                 (
                     front,
-                    b"[a](../../../../docs/A.md) [c](#e) [f](https://g.h/)",
+                    b"[a](../../../docs/A.md) [c](#e) [f](https://g.h/)",
                     b"[a](docs/A.md) [c](#e) [f](https://g.h/)",
                 ),
                 # What stands between fences stays.

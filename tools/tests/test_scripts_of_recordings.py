@@ -190,7 +190,9 @@ class Notes(Folder):
         front = "it reads input status 1 up to 1,000 times within a frame: what changes within a"
         self.assertEqual([line[: len(front)] for line in told(1000)], [front])
         self.assertIn("is lost. Record with --beam", told(1000)[0])
-        self.assertIn("`vga-trace pictures FOLDER --beam` draws it", told(1000, has_beam=True)[0])
+        self.assertIn(
+            "`zaklimot trace pictures FOLDER --beam` draws it", told(1000, has_beam=True)[0]
+        )
 
     def test_why_a_recording_ended(self) -> None:
         """It was ended, unless it is known why; a trace that can't be kept is told in any case."""

@@ -76,7 +76,7 @@ class Style(Folder):
         black, flake8 = noted.index("black"), noted.index("flake8")
         self.assertIn("--check", noted[black:flake8])
         for words in (noted[black:flake8], noted[flake8 : noted.index("mypy")]):
-            self.assertEqual({"tools/vga-report", *style.FOLDERS} - {*words}, set())
+            self.assertEqual({"zaklimot", "tools/vga-page", *style.FOLDERS} - {*words}, set())
         self.assertNotIn("tools/tests-with-emulators", noted)
 
     def test_what_one_finds_is_told_and_the_others_judge_too(self) -> None:

@@ -116,17 +116,15 @@ class Sleeping(unittest.TestCase):
 """
 # The words of tools that start programs.
 STARTING = (
-    "vga-report suite {harness} --list {list}",
-    "vga-report run {script} --try",
+    "zaklimot suite {harness} --list {list}",
+    "zaklimot run {script} --try",
     "vga-library make {made}",
     "vga-release {made}",
     "vga-page module {made}",
     "vga-fuzz {vga}",
-    "vga-floppy run --on dosbox {script} {made}",
-    "vga-steps confirm {elements} --vga {vga}",
-    "vga-steps confirm {elements} {elements} --jobs 2 --vga {vga}",
+    "zaklimot floppy run --on dosbox {script} {made}",
     "tests-of-tools {tests}",
-    "vga-trace record {made} --vga {vga} --quiet 50 -- -cdrom disc",
+    "zaklimot trace record {made} --vga {vga} --quiet 50 -- -cdrom disc",
 )
 # What the only test of a module does, and what is told of it.
 TEST = """import os, signal, time, unittest

@@ -76,17 +76,26 @@ UNBUILT = "there is no program to test: tools/tests-of-tools compiles one, if th
 Marked = TypeVar("Marked", bound=Any)
 
 
-# All tools but the one that is the program itself.
-NAMES = sorted(
-    path.name
-    for path in TOOLS.glob("*")
-    if path.is_file() and path.read_bytes().startswith(STARTING) and path.name != "vga"
-)
+# The command of users, and all tools but the one that is the program itself.
+COMMAND = "zaklimot"
+NAMES = [
+    COMMAND,
+    *sorted(
+        path.name
+        for path in TOOLS.glob("*")
+        if path.is_file() and path.read_bytes().startswith(STARTING) and path.name != "vga"
+    ),
+]
+
+
+def path_of(name: str) -> Path:
+    """Where a tool lies, or the command of users."""
+    return TOP / name if name == COMMAND else TOOLS / name
 
 
 def main_of(name: str) -> Callable[[Sequence[str]], int]:
     """The `main` of a tool."""
-    found = MAIN.search((TOOLS / name).read_text("utf-8"))
+    found = MAIN.search(path_of(name).read_text("utf-8"))
     assert found is not None, name
     main: Callable[[Sequence[str]], int] = importlib.import_module(found[1]).main
     return main
@@ -310,7 +319,7 @@ def begin(name: str, *words: str | Path, **options: Any) -> subprocess.Popen[Any
         "preexec_fn": _heed_signals,
         **options,
     }
-    return subprocess.Popen([*PYTHON, TOOLS / name, *words], **given)
+    return subprocess.Popen([*PYTHON, path_of(name), *words], **given)
 
 
 def is_running(number: int) -> bool:

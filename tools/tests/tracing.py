@@ -13,7 +13,7 @@ from zaklimot.commands.trace.trace import Cycle, Trace
 from .tools import run_tool
 
 
-run = partial(run_tool, "vga-trace")
+run = partial(run_tool, "zaklimot", "trace")
 # What a trace from power-on begins with.
 BEGIN = b"0 w p 3C2 67 1\n"
 

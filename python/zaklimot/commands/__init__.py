@@ -1,7 +1,7 @@
 """The commands of Zaklimot, in parts. A part uses those before it in PARTS, and no other.
 
 `core` is what all have in common. `script` finds and runs the program. `explain` has reasons.
-`images` has pictures. `report`, `trace`, `picture`, `floppy` and `steps` are the tools of these
+`images` has pictures. `report`, `trace`, `floppy` and `steps` are the tools of these
 names.
 """
 
@@ -14,7 +14,6 @@ PARTS = (
     "images",
     "report",
     "trace",
-    "picture",
     "floppy",
     "steps",
 )

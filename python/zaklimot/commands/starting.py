@@ -19,29 +19,6 @@ def start(module: str) -> int:
     return main()
 
 
-# What pip calls for its commands.
-
-
-def vga_floppy() -> int:
-    """The command `vga-floppy`."""
-    return start("zaklimot.commands.floppy.words")
-
-
-def vga_picture() -> int:
-    """The command `vga-picture`."""
-    return start("zaklimot.commands.picture.words")
-
-
-def vga_report() -> int:
-    """The command `vga-report`."""
-    return start("zaklimot.commands.report.words")
-
-
-def vga_steps() -> int:
-    """The command `vga-steps`."""
-    return start("zaklimot.commands.steps.words")
-
-
-def vga_trace() -> int:
-    """The command `vga-trace`."""
-    return start("zaklimot.commands.trace.words")
+def zaklimot() -> int:
+    """The command `zaklimot`, as pip calls it."""
+    return start("zaklimot.commands.words")

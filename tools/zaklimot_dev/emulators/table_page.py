@@ -45,7 +45,7 @@ class CaseResult(NamedTuple):
 
 
 class Results(NamedTuple):
-    """What `vga-report suite --json` printed of `vga-floppy run` on an emulator."""
+    """What `zaklimot suite --json` printed of `zaklimot floppy run` on an emulator."""
 
     name: str
     version: str
@@ -78,9 +78,9 @@ def _read(path: str) -> Results:
             for case in rule["cases"]
         ]
     except (ValueError, KeyError, TypeError, AttributeError) as error:
-        raise Trouble("it isn't what `vga-report suite --json` prints", name) from error
+        raise Trouble("it isn't what `zaklimot suite --json` prints", name) from error
     if on is None or on[1] not in MACHINES:
-        raise Trouble("its command is no `vga-floppy run --on` of an emulator", name)
+        raise Trouble("its command is no `zaklimot floppy run --on` of an emulator", name)
     return Results(on[1], MACHINES[on[1]].full_version(bios[1] if bios else None), cases)
 
 

@@ -93,8 +93,8 @@ def _card(rom: str) -> list[str]:
 
 
 def _disc(mode: int, folder: Path) -> list[str]:
-    """A disc that lets the video BIOS draw in a mode: an image of vga-floppy with a script of the
-    suite."""
+    """A disc that lets the video BIOS draw in a mode: an image of `floppy make` with a script
+    of the suite."""
     disc = folder / "calls.img"
     name = f"mode-{mode:02x}-cut-by-cell.vga"
     # Where mode 7 is set, the CRT controller isn't at 3B4 yet, and keeps what it had: that is to be

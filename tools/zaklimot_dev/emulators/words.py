@@ -45,7 +45,7 @@ def _parser() -> argparse.ArgumentParser:
     example = "tools/vga-emulators table docs/EMULATORS-TABLE.md kept/*.json"
     made = cli.command(commands, "table", job, told, example)
     add(made, "PAGE", "the page, with the marks between which they stand", type=Input)
-    told = "what `vga-report suite --json` printed of `vga-floppy run`"
+    told = "what `zaklimot suite --json` printed of `zaklimot floppy run`"
     add(made, "RESULTS", told, nargs="+", type=Input)
     return parser
 

@@ -271,7 +271,7 @@ def check_memory(built: Built, folder: Path) -> str:
     return "allocations refused: " + ", ".join(f"{name} {count}" for name, count in counts)
 
 
-# So many lines are told of cases that do not agree; what `vga-report suite` begins them with.
+# So many lines are told of cases that do not agree; what `zaklimot suite` begins them with.
 MOST_TOLD = 20
 OF_A_CASE = 11 * " "
 # What the harness is given for a text, and for bytes; steps of a slice are so few that most cases
@@ -318,7 +318,7 @@ def check_cases(way: str, built: Built, folder: Path) -> str:
         "--jobs",
         str(os.cpu_count() or 1),
     ]
-    done = captured([sys.executable, TOP / "tools" / "vga-report", "suite", *words])
+    done = captured([sys.executable, TOP / "zaklimot", "suite", *words])
     # Cases of bytes that are to be stopped, which zak_run does not do.
     stopped = (
         sum(case.is_bytes and case.until is not None for case in cases) if scripts == BYTES else 0
@@ -587,7 +587,7 @@ def _check_script(built: Built, pc: Path, folder: Path, name: str) -> None:
     skips."""
     script = TOP / "examples" / f"{name}.vga"
     image = folder / f"{name}.img"
-    floppy: list[Word] = [sys.executable, TOP / "tools" / "vga-floppy"]
+    floppy: list[Word] = [sys.executable, TOP / "zaklimot", "floppy"]
     run([*floppy, "make", script, image])
     run([pc, image, FONTS, "--keys", " ", "--seconds", "5"])
     came = [

@@ -151,7 +151,7 @@ def check_suite(maker: Maker, *flags: str) -> str:
         f"{program} {job} {{script}} --fonts {{fonts}} {{until}}" for job in ("go", "run")
     )
     words = [texts, "--bytes", scripts, "--jobs", str(os.cpu_count() or 1)]
-    done = captured([sys.executable, TOP / "tools" / "vga-report", "suite", *words])
+    done = captured([sys.executable, TOP / "zaklimot", "suite", *words])
     wanted = f"{counted(len(cases), 'case')}: {len(cases)} agree"
     table = done.output.decode("utf-8", "replace").splitlines()
     if done.status or table[-1:] != [wanted]:

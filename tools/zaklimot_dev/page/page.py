@@ -55,7 +55,7 @@ TARGETS = "chrome103,firefox113,safari16.4"
 # The joining takes a fraction of a second.
 MOST_SECONDS = 60
 SCRIPT_BLOCK = re.compile(r"^```\n(.*?)^```$", re.M | re.S)
-TUTORIAL_FILE = re.compile(r"In a terminal: `tools/vga-report run examples/tutorial/([a-z-]+)\.vga")
+TUTORIAL_FILE = re.compile(r"In a terminal: `\./zaklimot run examples/tutorial/([a-z-]+)\.vga")
 WORDINGS_HEAD = (
     "// Made of python/zaklimot/commands/explain/wordings.json by\n// "
     "`tools/vga-page wordings page/script/wordings.js`.\n"

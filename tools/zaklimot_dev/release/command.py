@@ -81,8 +81,6 @@ class Commit(NamedTuple):
     time: int
 
 
-# The tools of a release: those that need no toolchain.
-TOOLS = tuple(f"tools/vga-{name}" for name in ("floppy", "picture", "report", "steps", "trace"))
 # The front page of a release is this one, and the repository's lies beside the other pages.
 PAGE = "tools/zaklimot_dev/release/README.md"
 FRONT = "README.md"
@@ -106,7 +104,7 @@ PATHS = (
     "share",
     "tools/README.md",
     "tools/vga",
-    *TOOLS,
+    "zaklimot",
 )
 MOVED = {PAGE: FRONT, FRONT: f"docs/{FRONT}"}
 # What is in the archive of the C file, all in one folder.
@@ -136,7 +134,6 @@ SOURCES = (
     "include",
     "page/zaklimot.html",
     PORTABLE,
-    "share",
 )
 # The package's own backend makes the wheel, as it does for pip.
 MAKING = "import sys, building; building.build_wheel(sys.argv[1])"
@@ -217,7 +214,7 @@ def release_entries(
     install = File((Path(__file__).parent / INSTALL).read_bytes(), True)
     with tempfile.TemporaryDirectory(prefix="vga-release-") as name:
         # The suite's scripts, each whole.
-        run([sys.executable, TOP / "tools" / "vga-report", "scripts", Path(name) / "scripts"])
+        run([sys.executable, TOP / "zaklimot", "suite", "--scripts", Path(name) / "scripts"])
         scripts = laid_files(Path(name))
     own: dict[str, Entry] = {INSTALL: install, MADE_OF: made_of(commit, kit_line(), built)}
     return settled({**files, **scripts, **built, **LINKS, **own})

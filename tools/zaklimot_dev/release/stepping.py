@@ -12,12 +12,13 @@ from zaklimot.commands.core.processes import Hearer, Word, run
 from zaklimot.commands.core.trouble import Trouble
 from zaklimot.commands.script.library import NAMED, library_path
 
+from .coverage import seldom_shown
 from .words import COUNT, STEPS
 
 # So many commands work at a time, and so many bytes have all files at most.
 JOBS = 2
 MOST_BYTES = 60_000_000
-TOOL = TOP / "tools" / "vga-steps"
+TOOL = (TOP / "zaklimot", "steps")
 # What of the commit lies beside the elements, and where.
 PAGE = "docs/STEPS.md"
 LOADERS = tuple(
@@ -78,12 +79,13 @@ def make_steps(
     made_of = hashlib.sha256(path.read_bytes()).hexdigest()
     with tempfile.TemporaryDirectory(prefix="vga-release-") as name:
         folder = Path(name) / STEPS
-        words: list[Word] = [sys.executable, TOOL, "make", folder]
+        words: list[Word] = [sys.executable, *TOOL, "make", folder]
         words += ["--count", str(count), "--seed", seed]
         run([*words, "--jobs", str(JOBS)], heard=heard, environment={NAMED: str(path)})
         paths = sorted(folder.iterdir())
         if count >= COUNT:
-            run([sys.executable, TOOL, "coverage", *paths, "--jobs", str(JOBS)], heard=heard)
+            for told in seldom_shown(paths, JOBS):
+                raise Trouble(f"the elements show a branch too seldom: {told}")
         files = {f"{STEPS}/{path.name}": path.read_bytes() for path in paths}
     size = sum(map(len, files.values()))
     if size > MOST_BYTES:

@@ -10,12 +10,13 @@ import shlex
 import sys
 import time
 
+from zaklimot.commands import TOP
 from zaklimot.commands.core.processes import captured
 from zaklimot.commands.core.progress import Progress
 from zaklimot.commands.core.trouble import AGREED as PASSED, DIFFERED as FAILED, TROUBLE, Trouble
 from zaklimot.commands.script.portable import portable_program
 
-from .running import TOOLS, Counts, run_tests
+from .running import Counts, run_tests
 
 # What the suite does may take so many seconds.
 MOST_SECONDS = 900
@@ -28,7 +29,7 @@ def check_suite(program: str, *chosen: str) -> Counts:
         shlex.join([program, way]) + " {script} --fonts {fonts} {until}" for way in ("go", "run")
     ]
     words = [ways[0], "--bytes", ways[1], "--jobs", str(os.cpu_count() or 1), "--json", *chosen]
-    done = captured([sys.executable, TOOLS / "vga-report", "suite", *words], seconds=MOST_SECONDS)
+    done = captured([sys.executable, TOP / "zaklimot", "suite", *words], seconds=MOST_SECONDS)
     # A case that failed has this status too, and is told of.
     if done.status == TROUBLE and not done.output:
         raise Trouble(f"the suite can't be run\n{done.said()}")

@@ -44,8 +44,9 @@ JUDGES = (
 
 def commands() -> list[str]:
     """The commands in Python whose names have no ending: judges of folders pass over them."""
-    files = sorted(path for path in (TOP / "tools").iterdir() if path.is_file())
-    return [f"tools/{path.name}" for path in files if path.read_bytes().startswith(PYTHON)]
+    files = [TOP / "zaklimot", *sorted((TOP / "tools").iterdir())]
+    found = (path for path in files if path.is_file() and path.read_bytes().startswith(PYTHON))
+    return [str(path.relative_to(TOP)) for path in found]
 
 
 def found(name: str) -> Optional[str]:

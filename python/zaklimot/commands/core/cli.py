@@ -173,6 +173,19 @@ def command(
     return made
 
 
+def group(commands: Commands, name: str, told: str, example: str, page: str) -> Commands:
+    """Adds a command that has commands of its own; these. Its help has an example of one, and names
+    the page that tells more."""
+    made = commands.add_parser(
+        name,
+        help=told,
+        description=told[0].upper() + told[1:] + ".",
+        formatter_class=argparse.RawDescriptionHelpFormatter,
+        epilog=f"Example:\n  {example}\n\n{page} tells more.",
+    )
+    return made.add_subparsers(required=True, metavar="COMMAND")
+
+
 class Ended(BaseException):
     """A signal, by its number, that asks the tool to end."""
 

@@ -1,4 +1,4 @@
-"""What each command of `vga-floppy` does."""
+"""What each command of `floppy` does."""
 
 import argparse
 import os
@@ -10,7 +10,6 @@ from zaklimot.commands.core.files import STANDARD, name_of
 from zaklimot.commands.core.progress import Progress
 from zaklimot.commands.core.streams import (
     check_file,
-    counted,
     empty_folder,
     read_at_most,
     reading,
@@ -30,11 +29,8 @@ from .image import (
     read_record,
     report_lines,
     reports,
-    table_of,
 )
-from .rows import Pages, few, files_of, read_file
 from .running import MACHINES, SeenRuns, UnseenRuns
-from .table import Table
 
 # A longer file is no image and no record.
 MOST_READ = 1 << 26
@@ -50,7 +46,9 @@ def scripts_of(path: str) -> dict[str, Script]:
     if not os.path.isdir(path):
         return {"": _script(path)}
     if not os.path.exists(os.path.join(path, LIST)):
-        raise Trouble(f"it is a folder without {LIST}, which `vga-report scripts` writes", path)
+        raise Trouble(
+            f"it is a folder without {LIST}, which `zaklimot suite --scripts` writes", path
+        )
     listed = read_at_most(os.path.join(path, LIST), MOST_BYTES)
     names = [os.fsdecode(line.split(b" ")[0]) for line in listed.split(b"\n") if line]
     # The names in the list have the ends that tell text from bytes, and those of reports have none.
@@ -94,15 +92,12 @@ def make_image(words: argparse.Namespace, _: Progress) -> None:
     )
 
 
-def read_run(words: argparse.Namespace, progress: Progress) -> None:
+def read_run(words: argparse.Namespace, _: Progress) -> None:
     """Gives the report of what a run has left."""
     name = name_of(words.file)
     with reading(words.file) as stream:
         data = stream.read(MOST_READ if words.serial else IMAGE_SIZE)
-    if words.pages:
-        run = _read_pages(words, table_of(data, name), progress)
-    else:
-        run = read_record(data, name) if words.serial else read_image(data, name)
+    run = read_record(data, name) if words.serial else read_image(data, name)
     if not run.is_whole and not words.part:
         came = f"{len(run.answers):,} of {run.table.answer_length():,} bytes of answers came"
         raise Trouble(
@@ -110,25 +105,6 @@ def read_run(words: argparse.Namespace, progress: Progress) -> None:
         )
     names = [one.name for one in run.table.scripts()]
     _write_report(words, run, name, _reports_folder(words, names, "the answers of ", name))
-
-
-def _read_pages(words: argparse.Namespace, table: Table, progress: Progress) -> Run:
-    """What the rows of pages tell; a Trouble where rows are missing, and not only a part is
-    wanted."""
-    pages = Pages()
-    paths = files_of(words.pages)
-    for number, path in enumerate(paths):
-        if progress.is_due():
-            progress.tell(f"{number} of {counted(len(paths), 'page')}")
-        pages.join(read_file(path))
-    progress.clear()
-    pages.check(table, name_of(words.file))
-    missing = pages.missing()
-    if missing and not words.part:
-        damaged = f"; damaged are {few(pages.damaged)}" if pages.damaged else ""
-        told = f"the pages lack {few(missing)}{damaged}; --part gives the report so far"
-        raise Trouble(told, name_of(words.pages[0]))
-    return Run(table, pages.answers(), not missing)
 
 
 def run_script(words: argparse.Namespace, _: Progress) -> None:

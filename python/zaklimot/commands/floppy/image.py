@@ -146,7 +146,7 @@ def _partition(code: bytearray) -> None:
 def table_of(image: bytes, name: str) -> Table:
     """The table of an image, whether it was run or not; a Trouble where it is none."""
     if image[OEM_AT : OEM_AT + len(OEM_NAME)] != OEM_NAME:
-        raise Trouble("it is no image of vga-floppy", name)
+        raise Trouble("it is no image of `zaklimot floppy`", name)
     if len(image) < ANSWERS_AT:
         raise Trouble(f"the image is cut off: it has {len(image):,} bytes of {IMAGE_SIZE:,}", name)
     return Table(image[CODE_SIZE:MARK_AT], name)
@@ -190,7 +190,7 @@ def read_record(data: bytes, name: str) -> Run:
     damaged."""
     begin = data.rfind(BEGIN)
     if begin < 0:
-        raise Trouble("it holds no record of vga-floppy", name)
+        raise Trouble("it holds no record of `zaklimot floppy`", name)
     first = data.count(b"\n", 0, begin) + 1
     parts = {TABLE: bytearray(), ANSWERS: bytearray()}
     end: Optional[RecordLine] = None

@@ -241,7 +241,7 @@ class Table:
 
     def __init__(self, data: bytes, name: str) -> None:
         if len(data) < HEADER.size or data[:4] != NAME:
-            raise Trouble("it holds no table of steps of vga-floppy", name)
+            raise Trouble("it holds no table of steps of `zaklimot floppy`", name)
         _, version, self._first, length, self.check = HEADER.unpack_from(data)
         if version != VERSION:
             raise Trouble(
@@ -296,7 +296,7 @@ class Table:
         return _answers(step)
 
     def _forged(self) -> Trouble:
-        return Trouble("its table of steps is none that vga-floppy makes", self._name)
+        return Trouble("its table of steps is none that `zaklimot floppy` makes", self._name)
 
     def answer_length(self) -> int:
         """How many bytes of answers the scripts have."""

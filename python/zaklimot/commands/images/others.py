@@ -2,7 +2,7 @@
 
 import io
 import warnings
-from typing import Any, Iterator, Optional, Sequence
+from typing import Any, Optional
 
 from zaklimot.commands.core.trouble import Trouble
 
@@ -50,40 +50,17 @@ def size_of(image: Any, name: str) -> ImageSize:
     return ImageSize(height, width) if is_on_side else ImageSize(width, height)
 
 
-def rows_of(image: Any, name: str, ground: Optional[bytes] = None) -> tuple[bytes, ...]:
-    """The rows of an image that stands upright, three bytes a dot; where it is transparent, over a
-    ground."""
-    from PIL import Image, ImageOps
+def rows_of(image: Any, name: str) -> tuple[bytes, ...]:
+    """The rows of an image that stands upright, three bytes a dot."""
+    from PIL import ImageOps
 
     try:
-        made = ImageOps.exif_transpose(image)
-        if ground is not None and ("A" in made.getbands() or "transparency" in made.info):
-            made = made.convert("RGBA")
-            made = Image.alpha_composite(
-                Image.new("RGBA", made.size, (ground[0], ground[1], ground[2], 255)), made
-            )
-        made = made.convert("RGB")
+        made = ImageOps.exif_transpose(image).convert("RGB")
         dots = made.tobytes()
     except (OSError, ValueError, SyntaxError, EOFError) as error:
         raise _unread(error, name) from error
     step = 3 * made.size[0]
     return tuple(dots[at : at + step] for at in range(0, len(dots), step))
-
-
-def dark_on_white(image: Any, widths: Sequence[int], name: str) -> Iterator[bytes]:
-    """A photograph of a screen whose text is bright, as PNGs of these widths: upright, in greys,
-    dark on white."""
-    from PIL import ImageOps
-
-    try:
-        grey = ImageOps.grayscale(ImageOps.exif_transpose(image).convert("RGB"))
-    except (OSError, ValueError, SyntaxError, EOFError) as error:
-        raise _unread(error, name) from error
-    for width in widths:
-        sized = grey.resize((width, max(1, grey.height * width // grey.width)))
-        with io.BytesIO() as stream:
-            ImageOps.invert(ImageOps.autocontrast(sized, cutoff=1)).save(stream, "PNG")
-            yield stream.getvalue()
 
 
 def _unread(error: Exception, name: str) -> Trouble:

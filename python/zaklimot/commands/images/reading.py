@@ -7,7 +7,7 @@ import struct
 import zlib
 from collections import defaultdict
 from contextlib import suppress
-from typing import Any, Callable, Iterator, NamedTuple, Optional, Sequence
+from typing import Any, Callable, Iterator, NamedTuple, Sequence
 
 from zaklimot.format import Picture
 from zaklimot.commands.core.streams import read_at_most
@@ -68,20 +68,17 @@ def image_bytes(path: str) -> bytes:
     return read_at_most(path, MOST_BYTES)
 
 
-def image_of(
-    data: bytes, name: str, most: int = MOST_DOTS, ground: Optional[bytes] = None
-) -> Image:
+def image_of(data: bytes, name: str, most: int = MOST_DOTS) -> Image:
     """The image that a file holds. One of more dots than the most is told before it is unpacked.
 
     What is neither a PNG nor a PPM of the kind P6 is read by Pillow, and so is an interlaced PNG.
-    Where it is transparent, the ground shows through: a colour of eight bits a component. Without
-    one, transparency doesn't count.
+    Transparency doesn't count.
     """
     if data.startswith(SIGNATURE):
-        return _png(data, name, most, ground)
+        return _png(data, name, most)
     if data.startswith(PPM_BEGINS):
         return _ppm(data, name, most)
-    return _other(data, name, most, ground)
+    return _other(data, name, most)
 
 
 def size_of(data: bytes, name: str) -> ImageSize:
@@ -133,12 +130,12 @@ def _pillow(name: str, told: str = "this is neither a PNG nor a PPM of the kind 
     return found
 
 
-def _other(data: bytes, name: str, most: int, ground: Optional[bytes], told: str = "") -> Image:
+def _other(data: bytes, name: str, most: int, told: str = "") -> Image:
     module = _pillow(name, told) if told else _pillow(name)
     image = others.opened(module, data, name)
     width, height = others.size_of(image, name)
     _check_dots(width, height, most, name)
-    return Image(width, height, others.rows_of(image, name, ground), 255)
+    return Image(width, height, others.rows_of(image, name), 255)
 
 
 def _ppm(data: bytes, name: str, most_dots: int) -> Image:
@@ -170,7 +167,7 @@ def _chunks(data: bytes, name: str) -> dict[bytes, bytes]:
     return {kind: b"".join(bodies) for kind, bodies in parts.items()}
 
 
-def _png(data: bytes, name: str, most: int, ground: Optional[bytes]) -> Image:
+def _png(data: bytes, name: str, most: int) -> Image:
     chunks = _chunks(data, name)
     head, palette = chunks.get(b"IHDR", b""), chunks.get(b"PLTE", b"")
     if len(head) != 13:
@@ -187,7 +184,7 @@ def _png(data: bytes, name: str, most: int, ground: Optional[bytes]) -> Image:
         )
     if interlace:
         return _other(
-            data, name, most, ground, "an interlaced PNG can't be read: save it without interlace"
+            data, name, most, "an interlaced PNG can't be read: save it without interlace"
         )
     bits = depth * SAMPLES[colour]
     lines = b""
@@ -196,63 +193,14 @@ def _png(data: bytes, name: str, most: int, ground: Optional[bytes]) -> Image:
         lines = zlib.decompressobj().decompress(chunks.get(b"IDAT", b""), (length + 1) * height)
     if len(lines) != (length + 1) * height:
         raise Trouble(DAMAGED, name)
-    clear = Clear(colour, depth, chunks.get(b"tRNS", b""), ground)
-    if not clear.is_right:
-        raise Trouble(DAMAGED, name)
     rows = []
     for line in _unfiltered(lines, length, max(1, bits // 8), name):
         samples = _samples(line, width, depth, SAMPLES[colour], colour)
         row = _dots(samples, colour, palette)
         if len(row) != 3 * width:
             raise Trouble("the PNG names a colour that it does not have", name)
-        rows.append(clear.over_ground(row, line, samples))
+        rows.append(row)
     return Image(width, height, tuple(rows), 255)
-
-
-class Clear:
-    """What is transparent in a PNG of a colour type and a depth, with its chunk tRNS, over a
-    ground; without one nothing."""
-
-    def __init__(self, colour: int, depth: int, listed: bytes, ground: Optional[bytes]) -> None:
-        self._colour = colour
-        self._depth = depth
-        self._ground = ground
-        # Of a palette, how opaque each entry is; of greys and colours, the one that is clear.
-        self._entries = listed.ljust(256, b"\xff") if colour == PALETTE else b""
-        self._key = listed if colour in (0, 2) else b""
-        most = 256 if colour == PALETTE else 2 * SAMPLES[colour]
-        self.is_right = len(listed) <= most and len(self._key) in (0, most)
-
-    def over_ground(self, row: bytes, line: bytes, samples: bytes) -> bytes:
-        """A row of dots as it is over the ground, from its line in the file and its samples."""
-        if self._ground is None:
-            return row
-        opaque = self._opaque(line, samples)
-        if not opaque or min(opaque) == 255:
-            return row
-        return _spread(
-            [
-                bytes(
-                    (2 * (value * much + ground * (255 - much)) + 255) // 510
-                    for value, much in zip(row[part::3], opaque)
-                )
-                for part, ground in enumerate(self._ground)
-            ]
-        )
-
-    def _opaque(self, line: bytes, samples: bytes) -> bytes:
-        """How opaque each dot of a row is; empty where all are."""
-        if self._colour == PALETTE:
-            return samples.translate(self._entries)
-        if not self._key:
-            return {4: samples[1::2], 6: samples[3::4]}.get(self._colour, b"")
-        # Two bytes of a sample stand in the line alone; one of fewer bits is scaled as others are.
-        dots, key = line, self._key
-        if self._depth < 16:
-            scale = 255 // ((1 << self._depth) - 1)
-            dots, key = samples, bytes(value * scale & 255 for value in self._key[1::2])
-        size = len(key)
-        return bytes(0 if dots[at : at + size] == key else 255 for at in range(0, len(dots), size))
 
 
 def _unfiltered(lines: bytes, length: int, back: int, name: str) -> Iterator[bytes]:

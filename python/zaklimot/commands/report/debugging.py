@@ -1,8 +1,9 @@
-"""The page that runs scripts, and its data: a JSON object, in which a script of the user's may
-stand."""
+"""The command `page`: the page that runs scripts, and its data: a JSON object, in which a script of
+the user's may stand."""
 
 from __future__ import annotations
 
+import argparse
 import base64
 import json
 import os
@@ -13,10 +14,11 @@ from urllib.parse import quote
 
 from zaklimot.format import FONT_BYTES, MOST_BYTES, is_bytes
 from zaklimot.commands import TOP
-from zaklimot.commands.core.files import STANDARD
-from zaklimot.commands.core.streams import json_in_page, read_at_most
-from zaklimot.commands.core.trouble import Trouble
-from zaklimot.commands.explain.faults import wrong_font_bytes
+from zaklimot.commands.core.files import STANDARD, name_of
+from zaklimot.commands.core.progress import Progress
+from zaklimot.commands.core.streams import json_in_page, read_at_most, write, write_file
+from zaklimot.commands.core.trouble import AGREED, Trouble
+from zaklimot.commands.explain.faults import read_script, wrong_font_bytes
 
 
 PAGE = TOP / "page" / "zaklimot.html"
@@ -85,3 +87,15 @@ def debug_page(name: str, script: bytes, fonts: str, page: str) -> bytes:
         data["pages"] = link_to(DOCS, page) + "/"
     element = data_element(data)
     return ELEMENT.sub(lambda _: element, text).encode("utf-8")
+
+
+def page(words: argparse.Namespace, _: Progress) -> int:
+    """Writes the page with a script of the user's in it, and tells how it is opened."""
+    name = name_of(words.script)
+    data = debug_page(name, read_script(words.script), words.fonts, words.page)
+    write_file(words.page, data)
+    if words.page != STANDARD:
+        step = "" if words.until is None else f"#step={words.until}"
+        address = Path(words.page).absolute().as_uri() + step
+        write(f"{words.page}: open it in a browser, for instance as {address}\n")
+    return AGREED

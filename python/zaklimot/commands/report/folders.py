@@ -67,7 +67,7 @@ def run_several(words: argparse.Namespace, run_one: RunOne, progress: Progress) 
         refuse_input(file or STANDARD)
     tell = teller(words.json, words.junit)
     ran = []
-    with tempfile.TemporaryDirectory(prefix="vga-report-") as name:
+    with tempfile.TemporaryDirectory(prefix="zaklimot-") as name:
         for one in _runs(words, paths, run_one, Path(name), progress):
             progress.clear()
             tell(one.output)
@@ -125,7 +125,7 @@ def _ran(path: Path, words: argparse.Namespace, run_one: RunOne, json: Optional[
             status = run_one(words, output.append, said.append, stream)
         except (Trouble, OSError, MemoryError) as error:
             status, reason = ended_by(error)
-            said.append(f"vga-report: {reason}\n")
+            said.append(f"zaklimot: {reason}\n")
     return Ran(path, status, "".join(output), "".join(said), time.monotonic() - begun, json)
 
 

@@ -4,7 +4,6 @@ answer.
 What was seen is counted, told for machines, or written into the script.
 """
 
-import difflib
 import io
 import re
 import select
@@ -25,7 +24,7 @@ from zaklimot.commands.core.streams import JsonList, counted, writing
 from zaklimot.commands.core.trouble import Trouble
 from zaklimot.commands.explain.faults import explained
 from zaklimot.commands.explain.reasons import Reasons
-from zaklimot.commands.script.program import BuiltProgram, Limited, Tried, fault_of
+from zaklimot.commands.script.program import BuiltProgram, fault_of
 from zaklimot.commands.script.reading import text_of
 
 from .expecting import (
@@ -147,7 +146,7 @@ class RunScript:
         self,
         path: str,
         data: bytes,
-        program: Union[BuiltProgram, Tried],
+        program: BuiltProgram,
         shown: str,
         printed: BinaryIO,
     ) -> None:
@@ -191,23 +190,8 @@ class RunScript:
     def rows(
         self, fonts: str, until: Optional[int], progress: Progress, is_strict: bool, tells_why: bool
     ) -> Iterator[Row]:
-        """The steps with their answers, as they come, and why each was refused, if that is wanted.
-
-        A fault is told with its reason. A run that is ended at a limit tells nothing: a second one
-        then tells what stands before it.
-        """
-        rows_until = partial(
-            self._rows, fonts, progress=progress, is_strict=is_strict, tells_why=tells_why
-        )
-        try:
-            yield from rows_until(until)
-        except Limited as limited:
-            yield from islice(rows_until(limited.before), limited.before)
-            raise
-
-    def _rows(
-        self, fonts: str, until: Optional[int], progress: Progress, is_strict: bool, tells_why: bool
-    ) -> Iterator[Row]:
+        """The steps with their answers, as they come, and why each was refused, if that is
+        wanted. A fault is told with its reason."""
         reasons = Reasons() if tells_why else None
         # A script may have millions of steps, and each look at an object takes its time.
         dumps_at = self._dumps
@@ -415,12 +399,11 @@ class BlessedAnswer(NamedTuple):
 
 
 class Blessing:
-    """The answers that a script is to expect: those that were not met, and, if all are wanted,
-    those of other steps."""
+    """The answers that a script is to expect: those that were not met, and those of steps that
+    expect none yet."""
 
-    def __init__(self, data: bytes, is_all: bool) -> None:
+    def __init__(self, data: bytes) -> None:
         self._lines = text_of(data).split("\n")
-        self._is_all = is_all
         # What each line's step answered, and which lines change; and the last line of which a step
         # was taken.
         self._answers: dict[int, BlessedAnswer] = {}
@@ -445,7 +428,7 @@ class Blessing:
             known = self._answers.get(number, answered)
         if known != answered:
             self._answers[number] = BlessedAnswer(ANY)
-        if row.is_wrong or self._is_all and row.expected is None and is_told:
+        if row.is_wrong or row.expected is None and is_told:
             self._changed.add(number)
 
     def changes(self) -> Iterator[ChangedLine]:
@@ -471,13 +454,6 @@ class Blessing:
                 lines += [f"{DUMPED} {part}{_ending(line)}" for part in answered.dump]
                 is_dropped = True
         return "\n".join(lines)
-
-    def difference(self, name: str) -> str:
-        """What differs from the expectations, as a unified diff of the script."""
-        lines = difflib.unified_diff(
-            self._lines, self.text().split("\n"), name, f"{name} as answered", lineterm=""
-        )
-        return "".join(f"{line}\n" for line in lines)
 
 
 def _ending(line: str) -> str:

@@ -25,7 +25,7 @@ AROUND = 4
 # What COLORTERM says of a terminal with 24-bit colours; and what is told where it doesn't.
 COLOURS = ("truecolor", "24bit")
 WITHOUT_COLOURS = (
-    "vga-report: this terminal doesn't say that it has 24-bit colours (COLORTERM=truecolor). If the"
+    "zaklimot: this terminal doesn't say that it has 24-bit colours (COLORTERM=truecolor). If the"
     " blocks look wrong, open the pictures that --pictures FOLDER writes\n"
 )
 
@@ -123,14 +123,13 @@ class StepList(Summary):
         return why
 
 
-class Differences(Summary):
-    """What differs from the expected answers, or all that --bless would write, as a unified diff of
-    the script."""
+class Blessed(Summary):
+    """The answers that are not as expected, which are written into the script."""
 
     def __init__(self, words: argparse.Namespace, tell: Tell, data: bytes) -> None:
         super().__init__(words, tell)
-        self._is_blessed = words.bless
-        self._blessing = Blessing(data, self._is_blessed)
+        self._data = data
+        self._blessing = Blessing(data)
         self._name = words.script
 
     def check(self, script: RunScript) -> None:
@@ -140,18 +139,6 @@ class Differences(Summary):
     def take(self, row: Row, is_wrong: bool) -> None:
         self._blessing.take(row)
         super().take(row, is_wrong)
-
-    def end(self, tally: Tally) -> bool:
-        self._tell(self._blessing.difference(tally.shown))
-        return not self._is_blessed
-
-
-class Blessed(Differences):
-    """The answers that are not as expected, which are written into the script."""
-
-    def __init__(self, words: argparse.Namespace, tell: Tell, data: bytes) -> None:
-        super().__init__(words, tell, data)
-        self._data = data
 
     def end(self, tally: Tally) -> bool:
         changes = list(self._blessing.changes())
@@ -166,8 +153,6 @@ class Blessed(Differences):
 
 def mode_of(words: argparse.Namespace, tell: Tell, data: bytes, progress: Progress) -> Summary:
     """The way in which these words have a run shown."""
-    if words.diff:
-        return Differences(words, tell, data)
     if words.bless:
         return Blessed(words, tell, data)
     is_listed = not words.quiet and words.json != STANDARD

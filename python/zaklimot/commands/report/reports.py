@@ -1,4 +1,4 @@
-"""The commands over reports: `text`, `pictures`, `compare` and `compare-picture`."""
+"""The commands over reports: `pictures`, and `compare` of two, or of a picture and an image."""
 
 import argparse
 import os
@@ -25,7 +25,6 @@ from zaklimot.commands.images.holding import held, held_size
 from zaklimot.commands.images.png import Animation, Shape, save_png
 from zaklimot.commands.images.reading import image_bytes, image_of, size_of
 
-from .page import Page
 from .report import Comparison, Difference, Expected, Report
 
 
@@ -35,18 +34,6 @@ def _steps(
 ) -> Iterator[Iterator[Answer]]:
     with reading(path) as stream:
         yield kind(stream, name_of(path), progress).steps()
-
-
-def text(words: argparse.Namespace, progress: Progress) -> int:
-    """Writes a report as text."""
-    # Text on a terminal shows by itself how far the work has come.
-    with (
-        _steps(words.report, None if sys.stdout.isatty() else progress) as steps,
-        writing(STANDARD) as output,
-    ):
-        for step in steps:
-            output.write(step.text().encode("ascii"))
-    return AGREED
 
 
 def wanted_pictures(
@@ -185,22 +172,20 @@ def _write_picture(words: argparse.Namespace, stem: str, picture: Picture, shape
 
 
 class Compared:
-    """What is told of the steps in which two reports differ, as they come: on a terminal, as a
-    picture, and as a page."""
+    """What is told of the steps in which two reports differ, as they come: as lines, and as a
+    picture."""
 
     def __init__(self, words: argparse.Namespace, names: tuple[str, str]) -> None:
         self._words = words
         self._names = names
-        self._tell = teller(words.picture, words.html)
+        self._tell = teller(words.picture)
         self._wants_picture = words.picture is not None
-        columns = ["step", *names, "dots that differ"]
-        self._page = Page([*names, "where they differ"], columns) if words.html else None
         self.count = 0
 
     @property
     def wants_more(self) -> bool:
         """Whether more steps that differ are to be told."""
-        return self._words.all or self._wants_picture or self._page is not None
+        return self._words.all or self._wants_picture
 
     def take(self, difference: Difference) -> None:
         """Takes the next step that differs."""
@@ -212,28 +197,23 @@ class Compared:
             shape = Shape(self._words.scale, self._words.aspect)
             save_png(self._words.picture, found[0], shape, found[1])
             self._wants_picture = False
-        if self._page is not None:
-            self._page.add_difference(difference)
 
     def end(self, seen: str) -> None:
-        """Tells what was seen of the reports, and writes the page."""
+        """Tells what was seen of the reports."""
         if self._wants_picture:
             _tell_unwritten("no pictures differ", self._words.picture)
         both = " and ".join(self._names)
-        if self._page is not None:
-            said = f"{self.count} step{'s differ' if self.count != 1 else ' differs'}; {seen}"
-            write_file(self._words.html, self._page.text(both, said).encode("utf-8", "replace"))
         if not self.count:
             self._tell(f"{both} agree: {seen}\n")
 
 
-def compare(words: argparse.Namespace, progress: Progress) -> int:
+def compare_reports(words: argparse.Namespace, progress: Progress) -> int:
     """Tells the first step in which two reports differ, or a report and an expected one."""
     if words.expected:
         return _compare_expected(words, progress)
     comparison = Comparison()
-    compared = Compared(words, (name_of(words.report), name_of(words.other)))
-    with _steps(words.report, progress) as steps, _steps(words.other) as others:
+    compared = Compared(words, (name_of(words.one), name_of(words.other)))
+    with _steps(words.one, progress) as steps, _steps(words.other) as others:
         for difference in comparison.differences(steps, others):
             progress.clear()
             compared.take(difference)
@@ -245,10 +225,10 @@ def compare(words: argparse.Namespace, progress: Progress) -> int:
 
 
 def _compare_expected(words: argparse.Namespace, progress: Progress) -> int:
-    name = name_of(words.report)
+    name = name_of(words.one)
     expected_name = name_of(words.other)
     comparison = Comparison()
-    with _steps(words.report, progress) as steps, _steps(words.other, kind=Expected) as expected:
+    with _steps(words.one, progress) as steps, _steps(words.other, kind=Expected) as expected:
         difference = next(comparison.differences(steps, expected), None)
     progress.clear()
     if difference is None:
@@ -273,19 +253,19 @@ def _difference_text(difference: Difference, names: tuple[str, str]) -> str:
 def _tell_unwritten(reason: str, path: str) -> None:
     """Tells why a picture that was asked for isn't written."""
     name = name_of(path, "standard output")
-    sys.stderr.write(f"vga-report: {reason}, so {name} isn't written\n")
+    sys.stderr.write(f"zaklimot: {reason}, so {name} isn't written\n")
 
 
 def compare_picture(words: argparse.Namespace, progress: Progress) -> int:
     """Compares the picture of a step with an image, PNG or PPM."""
-    with _steps(words.report, progress) as steps:
-        _, picture = next(wanted_pictures(steps, [words.step], name_of(words.report)))
-    name = name_of(words.image)
-    data = image_bytes(words.image)
+    with _steps(words.one, progress) as steps:
+        _, picture = next(wanted_pictures(steps, [words.step], name_of(words.one)))
+    name = name_of(words.other)
+    data = image_bytes(words.other)
     # An image of another size is told before it is unpacked, which takes long.
     found = held_size(picture, *size_of(data, name))
     if found is None:
-        found = held(picture, image_of(data, name), words.within)
+        found = held(picture, image_of(data, name), words.within or 0)
     tell = teller(words.picture)
     agrees = found.differing == 0
     tell(f"step {words.step} and {name} {'agree' if agrees else 'differ'}: {found.how}\n")

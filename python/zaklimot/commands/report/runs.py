@@ -1,40 +1,31 @@
-"""The command `run`: a script beside its answers, and again when its files change."""
+"""The command `run`: a script beside its answers."""
 
 import argparse
 import os
-import sys
 import tempfile
-import time
 from contextlib import contextmanager
 from pathlib import Path
-from typing import BinaryIO, Callable, Iterator, NoReturn, Optional, Union, cast
+from typing import BinaryIO, Iterator, Optional, cast
 
 from zaklimot.commands.core.cli import say
 from zaklimot.commands.core.files import STANDARD, name_of
 from zaklimot.commands.core.progress import Progress
-from zaklimot.commands.core.streams import teller, write, write_file
-from zaklimot.commands.core.trouble import AGREED, DIFFERED, Trouble
+from zaklimot.commands.core.streams import teller
+from zaklimot.commands.core.trouble import AGREED, DIFFERED
 from zaklimot.commands.explain.faults import read_script
-from zaklimot.commands.script.program import BuiltProgram, Tried, build_program, found_program
+from zaklimot.commands.script.program import BuiltProgram, found_program
 
-from .debugging import debug_page
-from .folders import run_several, scripts_in
+from .folders import run_several
 from .listing import RunScript, tallied
 from .modes import Tell, mode_of
 from .words import is_several
 
-# Seconds between two looks whether a file has changed.
-LOOK = 0.2
-Work = Callable[[argparse.Namespace, Progress], int]
-Program = Union[BuiltProgram, Tried]
 # What to do where there is no program.
-BUILD_ONE = (
-    "--build proves and builds it, --vga names another, and --try runs it without its proofs"
-)
+BUILD_ONE = "README.md says how it is built, and --vga names another"
 # What the file of a text is called, and what is told where bytes are in it.
 TEXT_NAME = ".vga"
 LOST_TEXT = (
-    "vga-report: {}: the file contains bytes, but has the name of a text. "
+    "zaklimot: {}: the file contains bytes, but has the name of a text. "
     "If you named it twice, `vga asm` has written over the text\n"
 )
 
@@ -49,7 +40,7 @@ def _files(script: str, fonts: str) -> Iterator[tuple[str, bytes, str]]:
     """
     is_there = script in (STANDARD, "") or os.path.exists(script)
     data = read_script(script) if is_there else b""
-    with tempfile.TemporaryDirectory(prefix="vga-report-") as folder:
+    with tempfile.TemporaryDirectory(prefix="zaklimot-") as folder:
         # The program's own standard input is another one than that which `/dev/stdin` names here.
         is_file = os.path.isfile(script) and not script.startswith(("/dev/", "/proc/"))
         if is_there and not (is_file and _is_text(script)):
@@ -67,27 +58,10 @@ def _is_text(name: str) -> bool:
     return not any("\ud800" <= letter <= "\udfff" for letter in name)
 
 
-def _write_debug_page(words: argparse.Namespace, data: bytes) -> None:
-    write_file(words.debug, debug_page(name_of(words.script), data, words.fonts, words.debug))
-    if words.debug != STANDARD:
-        step = "" if words.until is None else f"#step={words.until}"
-        address = Path(words.debug).absolute().as_uri() + step
-        write(f"{words.debug}: open it in a browser, for instance as {address}\n")
-
-
 def run(words: argparse.Namespace, progress: Progress) -> int:
     """Runs a script, or each one of a folder, and shows each step beside its line and its
     answer."""
-    if words.build:
-        build_program(progress)
-    return _watched(words, progress) if words.watch else _run(words, progress)
-
-
-def _run(words: argparse.Namespace, progress: Progress) -> int:
-    if words.debug is not None:
-        _write_debug_page(words, read_script(words.script))
-        return AGREED
-    program: Program = Tried() if words.try_ else BuiltProgram(found_program(words.vga, BUILD_ONE))
+    program = BuiltProgram(found_program(words.vga, BUILD_ONE))
 
     def run_one(one: argparse.Namespace, tell: Tell, warn: Tell, json: Optional[BinaryIO]) -> int:
         return run_script(one, program, Progress(False), tell, warn, json)
@@ -99,7 +73,7 @@ def _run(words: argparse.Namespace, progress: Progress) -> int:
 
 def run_script(
     words: argparse.Namespace,
-    program: Program,
+    program: BuiltProgram,
     progress: Progress,
     tell: Tell,
     warn: Tell,
@@ -125,28 +99,3 @@ def run_script(
             progress.clear()
         tells_differences = mode.end(tally)
     return DIFFERED if tally.wrong and tells_differences else AGREED
-
-
-def _watched(words: argparse.Namespace, progress: Progress) -> NoReturn:
-    while True:
-        before = _changes(words)
-        try:
-            _run(words, progress)
-        except Trouble as trouble:
-            progress.clear()
-            sys.stdout.flush()
-            say(f"vga-report: {trouble}\n")
-        sys.stdout.flush()
-        write(f"{_changed(words, before)} has changed\n")
-
-
-def _changed(words: argparse.Namespace, before: dict[str, Optional[int]]) -> str:
-    """Waits until a file is otherwise than before; its name."""
-    while (now := _changes(words)) == before:
-        time.sleep(LOOK)
-    return next(file for file in {**now, **before} if now.get(file, 0) != before.get(file, 0))
-
-
-def _changes(words: argparse.Namespace) -> dict[str, Optional[int]]:
-    files = [words.script, words.fonts, *map(str, scripts_in(words.script))]
-    return {file: os.stat(file).st_mtime_ns if os.path.exists(file) else None for file in files}

@@ -1,5 +1,4 @@
-"""The commands over the suite's cases: `suite`, in which each is run, judged, and told by its rule;
-`scripts` and `expected`."""
+"""The command `suite`: each case is run, judged, and told by its rule; or its script is written."""
 
 import argparse
 import io
@@ -12,7 +11,6 @@ from threading import Event
 from typing import BinaryIO, Iterator, NamedTuple, Optional, Sequence
 
 from zaklimot.format import FAULT, MOST_BYTES, Answer, Picture
-from zaklimot.commands.core.cli import say
 from zaklimot.commands.core.files import STANDARD, name_of
 from zaklimot.commands.core.processes import Limits, command_words, in_parallel, run_command
 from zaklimot.commands.core.progress import Progress
@@ -116,7 +114,9 @@ class Command:
 
 
 def suite(words: argparse.Namespace, progress: Progress) -> int:
-    """Holds a command to the suite."""
+    """Holds a command to the suite, or writes its scripts."""
+    if words.scripts is not None:
+        return write_scripts(words)
     if words.keep is not None:
         empty_folder(words.keep)
     results = _results(words, _chosen(words), progress)
@@ -145,22 +145,6 @@ def _status(counts: dict[str, int]) -> int:
     if counts[FAILED]:
         return TROUBLE
     return DIFFERED if counts[DIFFERS] or not counts[AGREES] else AGREED
-
-
-def expected(words: argparse.Namespace, progress: Progress) -> int:
-    """Writes the pictures that the suite expects into a folder."""
-    folder = empty_folder(words.folder)
-    is_written = False
-    for case in _chosen(words):
-        for number, picture in _pictures_in(case.expected_steps()):
-            path = folder / f"{case.name}-{number:04}.png"
-            path.parent.mkdir(parents=True, exist_ok=True)
-            save_png(str(path), picture)
-            write_name(path)
-            is_written = True
-    if not is_written:
-        say("vga-report: no picture is expected of these cases, so none is written\n")
-    return AGREED
 
 
 def _chosen(words: argparse.Namespace) -> list[Case]:
@@ -207,7 +191,7 @@ def _run_case(
         return Result(case, case.rule(), SKIPPED, NO_ANSWERS)
     result = Result(case, case.rule(), comparison=Comparison(words.refusals, words.machine))
     limits = Limits(words.timeout, words.output * MEBIBYTE)
-    with tempfile.TemporaryDirectory(prefix="vga-report-") as name:
+    with tempfile.TemporaryDirectory(prefix="zaklimot-") as name:
         script, report, messages = (
             Path(name, file) for file in (f"script{case.suffix}", "report", "messages")
         )
@@ -311,10 +295,10 @@ def _pictures_in(steps: Iterator[Answer]) -> Iterator[tuple[int, Picture]]:
     return ((step.number, step.picture) for step in steps if isinstance(step.picture, Picture))
 
 
-def scripts(words: argparse.Namespace, progress: Progress) -> int:
+def write_scripts(words: argparse.Namespace) -> int:
     """Writes the scripts of the suite's cases into a folder, as `suite` hands them to a command."""
     cases = _chosen(words)
-    folder = empty_folder(words.folder)
+    folder = empty_folder(words.scripts)
     fonts: dict[Optional[Path], str] = {None: "-"}
     lines = []
     for case in cases:

@@ -9,8 +9,8 @@ from zaklimot.commands.core import cli
 from zaklimot.commands.core.cli import add, later, rule
 from zaklimot.commands.core.files import STANDARD, Input, Output, PictureFolder
 from zaklimot.commands.core.words import MOST_JOBS, MOST_OUTPUT, MOST_STEP, number_to, seconds
-from zaklimot.commands.images.words import IMAGES, add_shape, within
-from zaklimot.commands.script.words import add_program
+from zaklimot.commands.images.words import add_shape
+from zaklimot.commands.script.words import add_fonts, add_program
 
 from .places import SUITE
 
@@ -18,9 +18,6 @@ from .places import SUITE
 FILES: dict[str, tuple[str, Callable[[str], object]]] = {
     "SCRIPT": ("the script, as text or bytes, or a folder of scripts", Input),
     "REPORT": ("the report of a run", Input),
-    "OTHER": ("the report that it is compared with, such as that of another adapter", Input),
-    "STEP": ("the number of the step", number_to(MOST_STEP)),
-    "IMAGE": (IMAGES, Input),
 }
 COMMAND = """the command that runs a case, as one word of the shell. In it these places are filled:
 {script} the file of the case's script, {fonts} the font file, {name} the case's name, and {until},
@@ -52,11 +49,15 @@ def _add_machine(parser: argparse.ArgumentParser) -> None:
 
 
 def _add_suite(parser: argparse.ArgumentParser) -> None:
-    add(parser, "COMMAND", COMMAND)
+    add(parser, "COMMAND", COMMAND, nargs="?")
     # What stands behind a command that isn't quoted is told.
     parser.add_argument("rest", nargs="*", help=argparse.SUPPRESS)
     told = "the command is one word of the shell: '{command} {rest[0]}'"
     rule(parser, "rest", lambda words: words.rest, told)
+    told = "runs nothing, and writes the scripts into a new folder, as the command would get them"
+    add(parser, "--scripts FOLDER", told)
+    told = "name a command that runs a case, or by --scripts a folder for the scripts"
+    rule(parser, "rest", lambda words: (words.command is None) == (words.scripts is None), told)
     add(parser, "--keep FOLDER", "keeps the reports and pictures of cases that don't agree")
     add(parser, "--bytes COMMAND", "the command for scripts as bytes; without it they are skipped")
     _add_cases(parser)
@@ -73,20 +74,9 @@ def _add_suite(parser: argparse.ArgumentParser) -> None:
     add(parser, "--json", "prints the table as JSON")
 
 
-def _add_scripts(parser: argparse.ArgumentParser) -> None:
-    _add_expected(parser)
-    _add_machine(parser)
-
-
-def _add_expected(parser: argparse.ArgumentParser) -> None:
-    add(parser, "FOLDER", "a new folder, or an empty one")
-    _add_cases(parser)
-
-
 def _add_run(parser: argparse.ArgumentParser) -> None:
     _add_files(parser, "SCRIPT")
     add_program(parser)
-    add(parser, "--try", "runs the program without its proofs, by `rt try`", dest="try_")
     told = "stops after N steps, and shows the state"
     add(parser, "--until N", told, type=number_to(MOST_STEP, 0))
     told = "shows only these steps, as 10-20,refused; also read, pictures, dumps, differs"
@@ -94,29 +84,12 @@ def _add_run(parser: argparse.ArgumentParser) -> None:
     told = "writes the pictures of the steps that --only names, or of all, as NNNN.png"
     add(parser, "--pictures FOLDER", told, type=PictureFolder)
     add(parser, "--show", "shows pictures as blocks of colour")
-    _add_page(parser)
     _add_blessing(parser)
     add(parser, "--strict", "counts a refusal that is not expected as a difference")
     add(parser, "--quiet", "shows only the answers that differ, and the last line")
-    told = "shows what differs as a unified diff of the script; with --bless what that would write"
-    add(parser, "--diff", told)
     add(parser, "--json FILE", "writes steps, answers, digests and refusals as JSON", type=Output)
     _add_folders(parser)
-    add(parser, "--watch", "runs again when the script or the font file changes")
-    told = "--watch wants a file that changes, and not standard input"
-    rule(parser, "watch", lambda words: words.script == STANDARD, told)
-    add(parser, "--build", "proves and builds the program first, if it is missing")
     add_shape(parser)
-
-
-def _add_page(parser: argparse.ArgumentParser) -> None:
-    wanted = partial(rule, parser)
-    told = "writes a page that runs the script in a browser, step by step; nothing is run here"
-    add(parser, "--debug FILE", told, type=Output)
-    told = "--debug writes a page that runs the script: without --bless, --pictures and --show"
-    wanted("debug", _has_pictures, told)
-    told = "--debug runs nothing here: without --only, --try and --vga"
-    wanted("debug", lambda words: words.only is not None or words.try_ or words.vga, told)
 
 
 def _add_blessing(parser: argparse.ArgumentParser) -> None:
@@ -139,10 +112,8 @@ def _add_folders(parser: argparse.ArgumentParser) -> None:
     rule(
         parser,
         "script",
-        lambda words: is_several(words)
-        and (_has_pictures(words) or words.debug or words.only is not None),
-        "a folder of scripts, and --junit, want none of --bless, --only, --pictures, --show and "
-        "--debug",
+        lambda words: is_several(words) and (_has_pictures(words) or words.only is not None),
+        "a folder of scripts, and --junit, want none of --bless, --only, --pictures and --show",
     )
 
 
@@ -166,33 +137,6 @@ def _add_pictures(parser: argparse.ArgumentParser) -> None:
     add_shape(parser)
 
 
-def _add_compare(parser: argparse.ArgumentParser) -> None:
-    _add_files(parser, "REPORT", "OTHER")
-    add(parser, "--all", "tells all steps that differ, and not only the first")
-    told = "writes the first picture that differs as PNG, with its differing dots marked"
-    add(parser, "--picture FILE", told, type=Output)
-    add(parser, "--html FILE", "writes all steps that differ as one page", type=Output)
-    add(parser, "--expected", "OTHER is an expected report, as the suite has them")
-    rule(
-        parser,
-        "expected",
-        lambda words: words.all or words.picture is not None or words.html is not None,
-        "--expected tells the first step that differs: without --all, --picture and --html",
-    )
-    add_shape(parser)
-
-
-def _add_compare_picture(parser: argparse.ArgumentParser) -> None:
-    _add_files(parser, "REPORT", "STEP", "IMAGE")
-    told = (
-        "takes dots as alike whose components differ by N of 63, or in colours of 5, 6 and 5 bits"
-    )
-    add(parser, "--within N|5-6-5", told, type=within, default=0)
-    told = "writes the picture as PNG, with its differing dots marked"
-    add(parser, "--picture FILE", told, type=Output)
-    add_shape(parser)
-
-
 def _add_files(parser: argparse.ArgumentParser, *names: str) -> None:
     for name in names:
         told, kind = FILES[name]
@@ -209,6 +153,14 @@ class CommandWords(NamedTuple):
     example: str
 
 
+def _add_page(parser: argparse.ArgumentParser) -> None:
+    add(parser, "SCRIPT", "the script, as text or bytes; - is standard input", type=Input)
+    add(parser, "PAGE", "the page, one file of HTML; - is standard output", type=Output)
+    told = "tells the address that opens the page after N steps"
+    add(parser, "--until N", told, type=number_to(MOST_STEP, 0))
+    add_fonts(parser)
+
+
 COMMANDS: dict[str, CommandWords] = {
     "run": CommandWords(
         "runs",
@@ -216,11 +168,11 @@ COMMANDS: dict[str, CommandWords] = {
         _add_run,
         "examples/driver-test.vga --only refused,differs",
     ),
-    "text": CommandWords(
-        "reports",
-        "writes a report as text",
-        lambda parser: _add_files(parser, "REPORT"),
-        "report.txt",
+    "suite": CommandWords(
+        "suite",
+        "runs the cases of the suite by a command, such as an emulator's, and judges its reports",
+        _add_suite,
+        "'tools/vga go {script} --fonts {fonts} {until}' --only host/",
     ),
     "pictures": CommandWords(
         "reports",
@@ -228,56 +180,19 @@ COMMANDS: dict[str, CommandWords] = {
         _add_pictures,
         "report.txt pictures --scale 2",
     ),
-    "compare": CommandWords(
-        "reports",
-        "tells the first step in which two reports differ",
-        _add_compare,
-        "ours theirs --picture differing.png",
-    ),
-    "compare-picture": CommandWords(
-        "reports",
-        "compares the picture of a step with an image",
-        _add_compare_picture,
-        "report.txt 198 screenshots/0198.png --within 5-6-5",
-    ),
-    "suite": CommandWords(
-        "suite",
-        "holds a command to the suite",
-        _add_suite,
-        "'tools/vga go {script} --fonts {fonts} {until}' --only host/",
-    ),
-    "scripts": CommandWords(
-        "suite",
-        "writes the scripts of the suite's cases into a folder, as `suite` hands them to a command",
-        _add_scripts,
-        "cases --only dots/",
-    ),
-    "expected": CommandWords(
-        "suite",
-        "writes the pictures that the suite expects into a folder",
-        _add_expected,
-        "expected --only dots/",
+    "page": CommandWords(
+        "debugging",
+        "writes a page that runs a script in a browser, step by step; nothing is run here",
+        _add_page,
+        "examples/hunt.vga page.html",
     ),
 }
 
 
-def parser() -> argparse.ArgumentParser:
-    """The parser of the command line."""
-    made = cli.tool_parser(
-        "vga-report",
-        "Runs scripts, and reads the reports of runs. `-` is standard input or output in the place"
-        " of any file.",
-        "tools/vga-report run examples/text-screen.vga",
-        "tools/README.md",
-        cli.DIFFERS,
-    )
-    commands = made.add_subparsers(required=True, metavar="COMMAND")
-    for name, told in COMMANDS.items():
-        job = later(f"zaklimot.commands.report.{told.module}", name.replace("-", "_"))
-        example = f"tools/vga-report {name} {told.example}"
-        told.add_words(cli.command(commands, name, job, told.does, example))
-    return made
-
-
-# Runs a command line, and answers its exit status.
-main = cli.runner(parser)
+def add_command(commands: cli.Commands, name: str, is_whole: bool = True) -> None:
+    """Adds a command of this part, with its words or by its name alone."""
+    told = COMMANDS[name]
+    job = later(f"zaklimot.commands.report.{told.module}", name)
+    made = cli.command(commands, name, job, told.does, f"zaklimot {name} {told.example}")
+    if is_whole:
+        told.add_words(made)

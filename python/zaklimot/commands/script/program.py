@@ -2,23 +2,18 @@
 
 import io
 import os
-import re
 import shutil
 import tempfile
-from contextlib import contextmanager, suppress
 from dataclasses import dataclass
-from itertools import islice
 from pathlib import Path
-from typing import BinaryIO, ContextManager, Iterator, Optional, Sequence
+from typing import BinaryIO, ContextManager, Optional, Sequence
 
-from zaklimot.format import FAULT, MOST_BYTES, ScriptFault, read
+from zaklimot.format import FAULT
 from zaklimot.commands import TOP
-from zaklimot.commands.core.processes import ENDING, Streamed, check_program, run, streaming
-from zaklimot.commands.core.progress import Progress
-from zaklimot.commands.core.streams import bytes_of, to_read
+from zaklimot.commands.core.processes import Streamed, streaming
+from zaklimot.commands.core.streams import to_read
 from zaklimot.commands.core.trouble import Trouble
 
-from .crates import phases
 from .portable import has_sources, portable_program
 
 
@@ -36,15 +31,6 @@ MOST_SHOWN = 60
 # A script of a step, and its report: miscellaneous output as it is at power-on.
 ONE_STEP = b"in 3CC\n"
 ITS_REPORT = b"1 00\n"
-# What a run without proofs may take.
-LIMITS = "60 seconds and 1 MiB of output, which two pictures of text fill"
-NO_SOURCES = (
-    "the program's sources in Rattle are not here: they lie in the repository, and not in a release"
-)
-WITHOUT_RT = (
-    ". Without it --vga runs a program that is built already, and --debug FILE writes a page that "
-    "runs the script in a browser"
-)
 NO_PROGRAM = "there is no program vga, and portable/ has no sources of it: "
 # What a user can do without a program: of a command that takes one by name.
 NAME_ONE = "--vga names one"
@@ -113,28 +99,6 @@ def _words(script: str, fonts: str, until: Optional[int], is_bytes: bool) -> lis
     return ["run" if is_bytes else "go", script, "--fonts", fonts, *stop]
 
 
-def _crate() -> Path:
-    if not (CRATE / "src").is_dir():
-        raise Trouble(NO_SOURCES)
-    check_program("rt", WITHOUT_RT)
-    return CRATE
-
-
-def build_program(progress: Progress) -> None:
-    """Proves and builds the program where it is lacking, and tells how far that is: it may take
-    hours at first."""
-    if os.access(PROGRAM, os.X_OK):
-        return
-    try:
-        run(
-            ["rt", "run", "--", "--help"],
-            _crate(),
-            phases(progress, "vga")("proving and building the program"),
-        )
-    finally:
-        progress.clear()
-
-
 @dataclass
 class BuiltProgram:
     """The program as it was built."""
@@ -150,7 +114,7 @@ class BuiltProgram:
     def print_steps(self, script: Path, is_bytes: bool, printed: BinaryIO) -> None:
         """Prints the steps of a script as the program understands them; nothing where it has a
         fault."""
-        with tempfile.TemporaryDirectory(prefix="vga-report-") as name:
+        with tempfile.TemporaryDirectory(prefix="zaklimot-") as name:
             made = script if is_bytes else Path(name) / "script"
             is_good = is_bytes or self._writes(["asm", str(script), str(made)], io.BytesIO())
             if is_good and not self._writes(["dis", str(made)], printed):
@@ -165,15 +129,6 @@ class BuiltProgram:
                     raise Trouble(f"vga {words[0]} writes more than any script takes", self.path)
                 output.write(chunk)
         return outcome.status == 0
-
-
-def _steps_before_second(script: Path, until: Optional[int]) -> int:
-    """How many steps of a script stand before its second picture; 0 where there is none."""
-    with suppress(ScriptFault):
-        steps = islice(read(bytes_of(script, MOST_BYTES)).steps(), until)
-        frames = (number for number, step in enumerate(steps) if step.name == "frame")
-        return next(islice(frames, 1, None), 0)
-    return 0
 
 
 def check_program_runs(program: str, fonts: str) -> None:
@@ -196,48 +151,3 @@ def tried_program(named: Optional[str], fonts: str) -> str:
     program = found_program(named)
     check_program_runs(program, fonts)
     return program
-
-
-class Limited(Trouble):
-    """A run without proofs that came to a limit; so many steps stand before its second picture, 0
-    without one."""
-
-    def __init__(self, reason: str, before: int) -> None:
-        super().__init__(reason)
-        self.before = before
-
-
-class Tried:
-    """The program without its proofs, as `rt try` builds and runs it: in about a minute."""
-
-    # What `rt try` says of a run that has ended; and why it has ended one, behind what that has
-    # written.
-    ENDED = "run=ended status="
-    CHECKED = re.compile("(?m)^checked: (.+)")
-
-    @contextmanager
-    def running(
-        self, script: Path, fonts: str, until: Optional[int], is_bytes: bool
-    ) -> Iterator[Streamed]:
-        """A run of a script, as text or as bytes."""
-        files = ["--data", f"script={script.resolve()}", "--data", f"fonts={Path(fonts).resolve()}"]
-        words = ["rt", "try", *files, "--", *_words("script", "fonts", until, is_bytes)]
-        # What it leaves when it is ended goes with this folder.
-        with tempfile.TemporaryDirectory(prefix="vga-report-") as temporary:
-            with streaming(
-                words, ENDING, cwd=_crate(), env={**os.environ, "TMPDIR": temporary}
-            ) as outcome:
-                yield outcome
-        if self.ENDED not in outcome.said:
-            found = self.CHECKED.search(outcome.said)
-            # What `rt` can't build has no steps before the second picture either.
-            before = 0 if found is None else _steps_before_second(script, until)
-            told = f"; --until {before} ends before the second" if before else ""
-            reason = found[1] if found else fault_of(outcome)
-            raise Limited(
-                f"rt try has not run it to its end, within {LIMITS}{told}: {reason}", before
-            )
-        outcome.status = int(outcome.said.rpartition(self.ENDED)[2].split()[0])
-
-    def print_steps(self, script: Path, is_bytes: bool, printed: BinaryIO) -> None:
-        """Nothing: each answer would take a build of its own."""

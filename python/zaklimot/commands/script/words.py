@@ -20,6 +20,11 @@ def add_program(parser: argparse.ArgumentParser) -> None:
             " is compiled)"
         ),
     )
+    add_fonts(parser)
+
+
+def add_fonts(parser: argparse.ArgumentParser) -> None:
+    """The option that names a font file."""
     add(
         parser,
         "--fonts FILE",

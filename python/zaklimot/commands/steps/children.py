@@ -14,9 +14,9 @@ from zaklimot.commands.core.trouble import TROUBLE, Trouble
 # How a child begins: by the modules of this one.
 BEGINNING = (
     "import sys; sys.path.insert(0, sys.argv.pop(1)); "
-    "from zaklimot.commands.steps.words import main; sys.exit(main())"
+    "from zaklimot.commands.words import main; sys.exit(main())"
 )
-PREFIX = "vga-steps: "
+PREFIX = "zaklimot: "
 
 
 def is_shared(words: argparse.Namespace) -> bool:
@@ -36,7 +36,7 @@ def in_children(
 
     def run_one(words: Sequence[str]) -> Done:
         begin = [sys.executable, "-S", "-c", BEGINNING, str(HERE.parents[1])]
-        done = captured([*begin, *words], is_ended=is_ended)
+        done = captured([*begin, "steps", *words], is_ended=is_ended)
         if done.status >= TROUBLE:
             raise Trouble(done.errors.decode("utf-8", "replace").strip().removeprefix(PREFIX))
         return done

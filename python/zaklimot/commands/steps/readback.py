@@ -1,7 +1,6 @@
 """Cycles that read what can be read of a state by the adapter's own ports and addresses: for
 adapters that show their state in no other way."""
 
-import copy
 from typing import Any, Iterator, NamedTuple, Optional, Sequence
 
 from zaklimot.format import Step, printed
@@ -137,14 +136,3 @@ def readback_lines(element: Element) -> Iterator[str]:
     for cycle in cycles_of(element[FINAL]):
         expected = f" ; = {_value(element[FINAL], cycle.place):02X}" if cycle.place else ""
         yield printed(cycle.step) + expected
-
-
-def state_read(like: Parts, answers: Sequence[int]) -> Parts:
-    """The state that the answers of these cycles tell, part by part; what can't be read is left
-    out."""
-    told = {name: copy.deepcopy(value) for name, value in like.items() if name not in HIDDEN}
-    places = [cycle.place for cycle in cycles_of(like) if cycle.place]
-    for place, answer in zip(places, answers):
-        part = _value(told, place[:-1])
-        part[place[-1]] = answer
-    return told

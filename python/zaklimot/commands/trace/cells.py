@@ -106,7 +106,9 @@ def _offsets(crtc: tuple[int, ...], columns: int, lines: int) -> Sequence[Sequen
 def _places(state: State, name: str) -> Sequence[Sequence[int]]:
     """The same of a state; a Trouble where graphics are shown."""
     if is_graphics(state.gfx.registers):
-        raise Trouble("it shows graphics then, and no text: `vga-trace screen` shows them", name)
+        raise Trouble(
+            "it shows graphics then, and no text: `zaklimot trace pictures` shows them", name
+        )
     crtc = state.crtc.registers
     columns = min(crtc[SHOWN_CHARACTERS] + 1, state.shape.characters)
     # Where the cursor is makes no difference, and it moves.

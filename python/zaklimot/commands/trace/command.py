@@ -1,8 +1,7 @@
-"""What each command of `vga-trace` does, and how it ends."""
+"""What each command of `trace` does, and how it ends."""
 
 import argparse
 import sys
-from itertools import chain, islice
 from pathlib import Path
 from tempfile import TemporaryDirectory
 from typing import ContextManager, Iterator, Optional, Sequence, TextIO, Union
@@ -19,11 +18,11 @@ from zaklimot.commands.script.program import tried_program
 
 from . import inpage
 from .asked import BEAM, CLOCK, KEEP, Deed
-from .converting import Listing, check, convert, count
+from .converting import Listing, check, convert
 from .monitor import QEMU
-from .container import keep, unpacked
-from .judging import Judging, judge_kept, warn
+from .judging import Judging, warn
 from .note import NOTE, Note, note_of
+from .seeing import save_picture
 from .recording import PRECISE, QemuMachine, Say, chain_4, check_keys, record
 from .replaying import shown
 from .video import check_video, write_video
@@ -71,24 +70,11 @@ def check_report(words: argparse.Namespace, _: Progress) -> int:
     return AGREED if checked.agrees else DIFFERED
 
 
-def count_kinds(words: argparse.Namespace, _: Progress) -> None:
-    """Counts a trace's cycles by kind."""
-    with _opened(words) as trace:
-        cycles = trace.cycles(words.to)
-        first = list(islice(cycles, words.from_ - 1, words.from_))
-        before = trace.polls
-        found = count(chain(first, cycles))
-        if trace.polls > before:
-            found["read port 3DA or 3BA, folded"] = trace.polls - before
-        if not first:
-            told = f"it has {counted(trace.count, 'cycle', ',')}, and no cycle {words.from_:,}"
-            raise Trouble(told, trace.name)
-    warn(trace, name_of(words.trace))
-    print("\n".join(f"{number:12,} {kind}" for kind, number in found.most_common()))
-
-
-def make_pictures(words: argparse.Namespace, _: Progress) -> None:
-    """Makes the pictures of a trace, in real time."""
+def make_pictures(words: argparse.Namespace, progress: Progress) -> None:
+    """Makes the pictures of a trace, in real time, or that of a moment."""
+    if words.png is not None:
+        save_picture(words, progress)
+        return
     if words.video is not None:
         check_video(words.video)
     program = tried_program(words.vga, words.fonts)
@@ -96,7 +82,7 @@ def make_pictures(words: argparse.Namespace, _: Progress) -> None:
     found = _opened(words)
     if words.folder is not None:
         files().make_folder(words.folder)
-    with TemporaryDirectory(prefix="vga-trace-") as name:
+    with TemporaryDirectory(prefix="zaklimot-") as name:
         script = Path(name) / "script"
         with found as trace, writing(str(script)) as stream:
             listing = Listing(
@@ -177,20 +163,10 @@ def _judging(words: argparse.Namespace, progress: Progress) -> Judging:
 
 
 def _judged_again(words: argparse.Namespace, folder: Path, progress: Progress) -> int:
-    """Judges what a folder has, or what was kept in a file; the exit status."""
-    if folder.is_file():
-        judging = _judging(words, progress)
-        with unpacked(words.folder) as made:
-            return judge_kept(judging, made, words.folder)
+    """Judges once more what a folder has; the exit status."""
     check_folder(words.folder)
     judging = _judging(words, progress)
     return judging.judge(note_of(folder), folder)
-
-
-def keep_recording(words: argparse.Namespace, _: Progress) -> None:
-    """Keeps a recording in one file."""
-    size = keep(Path(words.folder), words.output)
-    print(f"{name_of(words.output, OUTPUT)}: {size:,} bytes", file=_beside(words.output))
 
 
 class _OnQemu:
@@ -208,7 +184,7 @@ class _OnQemu:
     def record(self, folder: Path, say: Say, progress: Progress) -> Note:
         """Records into a folder; the note."""
         words = self._words
-        with TemporaryDirectory(prefix="vga-trace-") as made:
+        with TemporaryDirectory(prefix="zaklimot-") as made:
             plugin = chain_4(Path(made)) if words.chain_4 else []
             beam = PRECISE if words.beam else ()
             line = [*beam, "-device", words.card or "VGA", *plugin, *words.qemu]
@@ -251,14 +227,13 @@ def _recorded(words: argparse.Namespace, folder: Path, progress: Progress) -> No
 
     def say(text: str) -> None:
         progress.clear()
-        print(f"vga-trace: {text}", file=sys.stderr)
+        print(f"zaklimot: {text}", file=sys.stderr)
 
     files().make_folder(folder)
     try:
         return recorder.record(folder, say, progress)
     except BaseException:
         if (folder / NOTE).exists():
-            say(
-                f"{folder}: it has what was recorded: `vga-trace record {folder} --again` judges it"
-            )
+            again = f"`zaklimot trace record {folder} --again` judges it"
+            say(f"{folder}: it has what was recorded: {again}")
         raise

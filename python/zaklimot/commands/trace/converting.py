@@ -57,7 +57,7 @@ from .step import (
     steps_of,
     without_polls,
 )
-from .trace import MEMORY, PORT, Cycle, Trace
+from .trace import PORT, Trace
 
 # Bytes that are kept free, as text: for the steps at the end, and for a row that is no block once
 # it is cut there.
@@ -751,20 +751,3 @@ def check(
 def place_of(address: int) -> str:
     """A name of the window of memory that an address is in."""
     return f"memory {WINDOWS.get(address >> WINDOW_BITS, 'elsewhere')}"
-
-
-def count(cycles: Iterable[Cycle]) -> Counter[str]:
-    """How many cycles there are of each kind: direction, port or window, and bytes."""
-    found: Counter[str] = Counter()
-    for cycle in cycles:
-        if cycle.call is not None:
-            found[f"call of interrupt 10, AH {cycle.call.registers[0] >> 8:02X}"] += 1
-            continue
-        place = (
-            place_of(cycle.address)
-            if cycle.space == MEMORY
-            else f"{cycle.space} {cycle.address:03X}"
-        )
-        # A VBE port is none of the adapter's, and is called so.
-        found[f"{'write' if cycle.is_write else 'read'} {place} size {cycle.size}"] += 1
-    return found

@@ -160,7 +160,7 @@ def _all_found(words: argparse.Namespace, progress: Progress) -> Iterator[Found]
     """Each place of the text that words name, screen by screen, and from the top to the bottom."""
     letters = code_page(words.code_page)
     walk = Walk(tried_program(words.vga, words.fonts), words.fonts, progress)
-    finder = Finder(words.text, words.any_case)
+    finder = Finder(words.find, words.any_case)
     with opened(words.trace) as trace:
         answers = walk.answers(Asking(Steps(trace)).items())
         for rows, told in _screens(answers, letters, name_of(words.trace)):

@@ -1,5 +1,4 @@
-"""The verdict on a recording: its reads and its screens, held against the adapter; and one that was
-kept, held against the one before."""
+"""The verdict on a recording: its reads and its screens, held against the adapter."""
 
 import sys
 from dataclasses import dataclass
@@ -7,18 +6,16 @@ from pathlib import Path
 from typing import Iterator, Optional, Sequence, Union
 
 from zaklimot.commands.core.progress import Progress
-from zaklimot.commands.core.streams import bytes_of, counted, write_file
+from zaklimot.commands.core.streams import write_file
 from zaklimot.commands.core.trouble import AGREED, DIFFERED
-from zaklimot.commands.images.reading import MOST_BYTES, Image, image_of
 
 from .converting import Listing
-from .note import VERDICT, Note, note_of, told_of_beam
+from .note import VERDICT, Note, told_of_beam
 from .replaying import Replay, Screen, replay
 from .trace import Trace
 
 # So many kinds of refusals, of reads and of differing reads are told of a recording.
 MOST_TOLD = 10
-MOST_VERDICT = 1 << 20
 # What the verdict that is kept calls the folder.
 FOLDER = Path("FOLDER")
 DUMPS = ".dump.*.ppm"
@@ -49,7 +46,7 @@ class Verdict:
 def warn(lacking: Union[Listing, Trace], name: str) -> None:
     """Tells what a trace lacks, once its steps have passed."""
     for line in lacking.warnings():
-        print(f"vga-trace: warning: {name}: {line}", file=sys.stderr)
+        print(f"zaklimot: warning: {name}: {line}", file=sys.stderr)
 
 
 @dataclass(frozen=True)
@@ -97,37 +94,3 @@ class Judging:
         for left in folder.glob(DUMPS):
             left.unlink()
         write_file(str(folder / VERDICT), "".join(f"{line}\n" for line in lines).encode("utf-8"))
-
-
-def judge_kept(judging: Judging, folder: Path, name: str) -> int:
-    """Judges a recording that was kept in a file of this name, and tells what is otherwise than it
-    was then; the exit status."""
-    before = _kept(folder)
-    told = bytes_of(folder / VERDICT, MOST_VERDICT).decode("utf-8", "replace").splitlines()
-    found = judging.verdict(note_of(folder), folder)
-    judging.tell(found, Path(name))
-    differing = list(_otherwise(told, list(found.lines(FOLDER)), before, _kept(folder)))
-    pictures = counted(len(before), "picture")
-    print("\n".join(differing or [f"all is as it was kept: the verdict and {pictures}"]))
-    return AGREED if found.agrees and not differing else DIFFERED
-
-
-def _kept(folder: Path) -> dict[str, Image]:
-    """The pictures of a recording by their names."""
-    paths = sorted(folder.glob("picture-*.png"))
-    return {one.name: image_of(bytes_of(one, MOST_BYTES), one.name) for one in paths}
-
-
-def _otherwise(
-    told: Sequence[str],
-    lines: Sequence[str],
-    before: dict[str, Image],
-    pictures: dict[str, Image],
-) -> Iterator[str]:
-    """What of a verdict and of pictures is otherwise than it was kept."""
-    if list(told) != list(lines):
-        was = next((one for one in told if one not in lines), "another order, or fewer lines")
-        yield f"the verdict is otherwise than it was kept: {was}"
-    for name in sorted({*before, *pictures}):
-        if before.get(name) != pictures.get(name):
-            yield f"{name} is otherwise than it was kept"

@@ -120,7 +120,7 @@ def told_of_beam(note: Note, folder: Path) -> Sequence[str]:
     front = f"it reads input status 1 up to {note.frame_polls:,} times within a frame"
     dumps = "what changes within a frame shows on no screen below"
     if note.has_beam:
-        return (f"{front}: {dumps}, and `vga-trace pictures {folder} --beam` draws it",)
+        return (f"{front}: {dumps}, and `zaklimot trace pictures {folder} --beam` draws it",)
     return (f"{front}: {dumps}, and is lost. Record with --beam, so that it sees a beam",)
 
 

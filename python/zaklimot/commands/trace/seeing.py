@@ -1,14 +1,12 @@
-"""The commands that tell what is in a trace at a moment: its text, colours, glyphs and pictures."""
+"""What is in a trace at a moment: its text and its picture."""
 
 import argparse
-import os
 from dataclasses import dataclass
 from functools import cached_property
-from math import prod
-from typing import Iterator, Optional, Sequence
+from typing import Iterator, Optional
 
 from zaklimot.format import Picture
-from zaklimot.commands.core.files import STANDARD, files, name_of
+from zaklimot.commands.core.files import STANDARD, name_of
 from zaklimot.commands.core.progress import Progress
 from zaklimot.commands.core.streams import counted, write_file, write_name
 from zaklimot.commands.core.trouble import Trouble
@@ -17,18 +15,14 @@ from zaklimot.commands.script.program import tried_program
 
 from .asked import ANSI, HTML, PLAIN
 from .cells import ansi_lines, code_page, html_lines, plain_lines
-from .colourfiles import gpl_of, jasc_of, plane_pictures, starts_of_pages
-from .fontfiles import bdf_of, font_of, psf_of, usual_height, usual_map
+from .finding import find_text
 from .moments import Moment, Steps
 from .state import State
-from .step import FRAME, OUTW, TraceStep, advances
+from .step import FRAME, TraceStep
 from .trace import opened
 from .walking import FRAME_STEP, Item, Question, Walk
 
 LINES = {PLAIN: plain_lines, ANSI: ansi_lines, HTML: html_lines}
-START_HIGH, START_LOW = 0x0C, 0x0D
-# So many frames lie between the pictures of two pages, of the 32 after which all blinks anew.
-PAUSE = 30
 
 
 @dataclass
@@ -99,88 +93,29 @@ def _framed(steps: Steps) -> Iterator[Item[int]]:
             yield step
 
 
-def show_text(words: argparse.Namespace, progress: Progress) -> None:
-    """Writes the text that is shown at a moment."""
+def show_text(words: argparse.Namespace, progress: Progress) -> Optional[int]:
+    """Writes the text that is shown at a moment; or tells when and where a text is shown."""
+    if words.find is not None:
+        return find_text(words, progress)
     letters = code_page(words.code_page)
     seen = Seen(words, progress)
     lines = LINES[words.form](seen.state, letters, seen.name)
     write_file(words.output, "".join(f"{line}\n" for line in lines).encode("utf-8"))
+    return None
 
 
-def save_palette(words: argparse.Namespace, progress: Progress) -> None:
-    """Writes the DAC at a moment as a palette."""
-    is_jasc = _ending(words.output, (".gpl", ".pal")) == ".pal"
+def save_picture(words: argparse.Namespace, progress: Progress) -> None:
+    """Writes the picture at a moment: that of the frame which ends next."""
     seen = Seen(words, progress)
-    write_file(words.output, jasc_of(seen.state) if is_jasc else gpl_of(seen.state, seen.name))
 
-
-def save_font(words: argparse.Namespace, progress: Progress) -> None:
-    """Writes the glyphs that text has at a moment as a font."""
-    is_bdf = _ending(words.output, (".psf", ".bdf")) == ".bdf"
-    letters = code_page(words.code_page)
-    seen = Seen(words, progress)
-    height = words.height or usual_height(seen.state, seen.name)
-    number = usual_map(seen.state) if words.map is None else words.map
-    font = font_of(seen.state, number, height, letters)
-    write_file(words.output, bdf_of(font, f"map{number}") if is_bdf else psf_of(font))
-
-
-def _ending(path: str, known: Sequence[str]) -> str:
-    """The ending of a file's name, which tells its form; of standard output the first that is
-    known."""
-    if path == STANDARD:
-        return known[0]
-    ending = os.path.splitext(path)[1].lower()
-    if ending not in known:
-        raise Trouble(f"its name tells no form: it ends in {' or '.join(known)}", path)
-    return ending
-
-
-def save_screen(words: argparse.Namespace, progress: Progress) -> None:
-    """Writes the picture at a moment, those of all pages, and those of the planes."""
-    seen = Seen(words, progress)
-    shape = Shape(words.scale, words.aspect)
-    if words.output is not None:
-        _save_frames(seen, [words.output], [None], shape)
-    if words.pages is not None:
-        starts = starts_of_pages(seen.state)
-        folder = files().make_folder(words.pages)
-        names = [str(folder / f"page-{start:04X}.png") for start in starts]
-        _save_frames(seen, names, starts, shape)
-    if words.planes is not None:
-        folder = files().make_folder(words.planes)
-        for number, picture in enumerate(plane_pictures(seen.state)):
-            path = folder / f"plane-{number}.png"
-            save_png(str(path), picture, Shape(words.scale))
-            write_name(path)
-
-
-def _save_frames(
-    seen: Seen, names: Sequence[str], starts: Sequence[Optional[int]], shape: Shape
-) -> None:
-    """Writes a picture for each start address; that of the moment where it is none."""
-
-    def items() -> Iterator[Item[str]]:
+    def items() -> Iterator[Item[None]]:
         yield from seen.steps()
-        for name, start in zip(names, starts):
-            # A start address is taken at a frame's first dot.
-            yield from () if start is None else _started(seen.state, start)
-            yield Question(FRAME_STEP, name)
-            # The cursor and blinking text are the same on each page.
-            yield from () if start is None else advances(PAUSE * prod(seen.state.shape))
+        yield Question(FRAME_STEP, None)
 
-    for name, answer in seen.walk.answers(items()):
+    for _, answer in seen.walk.answers(items()):
         if not isinstance(answer.picture, Picture):
             raise Trouble("the frame has no picture: its rows differ in width", seen.name)
-        seen.progress.clear()
-        save_png(name, answer.picture, shape)
-        if name != STANDARD:
-            write_name(name)
-
-
-def _started(state: State, start: int) -> Iterator[TraceStep]:
-    """The steps that show memory from a start address on, from the next frame on."""
-    port = state.controller
-    yield TraceStep(OUTW, port, start >> 8 << 8 | START_HIGH)
-    yield TraceStep(OUTW, port, (start & 0xFF) << 8 | START_LOW)
-    yield TraceStep(FRAME)
+        progress.clear()
+        save_png(words.png, answer.picture, Shape(words.scale, words.aspect))
+        if words.png != STANDARD:
+            write_name(words.png)

@@ -21,7 +21,6 @@ from zaklimot.commands.core.streams import counted, reading, to_read
 from zaklimot.commands.core.trouble import Trouble
 from zaklimot.commands.explain.banks import MISC, SEQUENCER
 
-from .container import ZIP, unpacked
 from .folding import FOLDED
 from .parts import Chained, parts_of
 
@@ -538,7 +537,7 @@ def _chained(folder: Path, name: str, may_be_cut: bool) -> Iterator[Trace]:
 
 @contextmanager
 def opened(path: str, is_whole: bool = True, may_be_cut: bool = False) -> Iterator[Trace]:
-    """The trace of a file, of a recording's folder or ZIP, or of standard input, compressed by gzip
+    """The trace of a file, of a recording's folder, or of standard input, compressed by gzip
     or not.
 
     One that isn't read whole may be endless. Where one may be cut, its last part may end anywhere,
@@ -549,10 +548,7 @@ def opened(path: str, is_whole: bool = True, may_be_cut: bool = False) -> Iterat
             yield trace
         return
     with reading(path, is_drained=is_whole) as read:
-        if read.peek(len(ZIP))[: len(ZIP)] == ZIP:
-            with unpacked(path) as folder, _chained(folder, path, may_be_cut) as trace:
-                yield trace
-        elif read.peek(2)[:2] == GZIP:
+        if read.peek(2)[:2] == GZIP:
             with gzip.open(read) as decoded:
                 # What `BufferedReader` asks of a stream, this has too.
                 yield Trace(io.BufferedReader(decoded), name_of(path))  # type: ignore[arg-type]

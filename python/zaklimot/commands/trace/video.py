@@ -36,7 +36,7 @@ def check_video(path: str) -> None:
 def write_video(path: str, animation: Animation) -> None:
     """Writes pictures that move as a video."""
     ending = os.path.splitext(path)[1].lower()
-    with TemporaryDirectory(prefix="vga-trace-") as name:
+    with TemporaryDirectory(prefix="zaklimot-") as name:
         moving, made = Path(name) / "moving.png", Path(name) / f"video{ending}"
         with open(moving, "wb") as stream:
             animation.write(stream)

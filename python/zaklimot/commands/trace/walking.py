@@ -105,7 +105,7 @@ class Walk:
         rest = iter(items)
         before: Sequence[TraceStep] = ()
         is_cut = True
-        with TemporaryDirectory(prefix="vga-trace-") as name:
+        with TemporaryDirectory(prefix="zaklimot-") as name:
             while is_cut:
                 script = Path(name) / "script"
                 with writing(str(script)) as stream:

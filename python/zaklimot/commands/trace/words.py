@@ -2,9 +2,8 @@
 
 import argparse
 import re
-import sys
 from functools import partial
-from typing import Any, Optional, Sequence
+from typing import Any, Sequence
 
 from zaklimot.commands.core import cli
 from zaklimot.commands.core.cli import add, later, rule
@@ -14,10 +13,10 @@ from zaklimot.commands.images.words import add_shape
 from zaklimot.commands.script.words import add_program
 
 from .asked import CLOCK, END, FIRST, FLIP, KEEP, QUIET, SCREENS, SPEEDS, USUAL_SPEED, Deed
-from .seeing_words import MOST_CYCLES, TRACE, add_seeing
+from .seeing_words import MOMENT, MOST_CYCLES, TRACE, add_moment, add_text
 
 
-CONVERTING = "tools/vga-trace convert examples/typed-line.trace script.bin"
+CONVERTING = "zaklimot trace convert examples/typed-line.trace script.bin"
 MOST_KINDS = 1 << 20
 # What jobs of the command line are functions of.
 _job = partial(later, "zaklimot.commands.trace.command")
@@ -161,8 +160,16 @@ def _add_page_machine(parser: argparse.ArgumentParser) -> None:
 def _add_pictures(parser: argparse.ArgumentParser) -> None:
     told = "the folder for PNG files, which are named by the second of each"
     add(parser, "FOLDER", told, nargs="?", type=PictureFolder)
-    told = "the pictures want a folder, or --apng or --video a file"
-    rule(parser, "trace", lambda words: not (words.folder or words.apng or words.video), told)
+    told = "name a folder for the pictures, or by --png, --apng or --video a file"
+    rule(parser, "trace", lambda words: not (words.png or words.folder or _moves(words)), told)
+    told = "writes the picture of one moment, by default of the end"
+    add(parser, "--png FILE", told, type=Output)
+    add_moment(parser)
+    told = "--png writes one picture: without a folder, --apng, --video, --beam, --from and --to"
+    rule(parser, "png", _asks_for_many, told)
+    for name in MOMENT:
+        told = f"--{name} is for --png, which writes the picture of one moment"
+        rule(parser, name, lambda words: words.png is None, told)
     add(parser, "--apng FILE", "writes one picture that moves, in real time", type=Output)
     told = "writes a video, .mp4 or .webm, which ffmpeg makes"
     add(parser, "--video FILE", told, type=Output)
@@ -173,6 +180,17 @@ def _add_pictures(parser: argparse.ArgumentParser) -> None:
     add_program(parser)
 
 
+def _moves(words: argparse.Namespace) -> bool:
+    """Whether words ask for pictures that move."""
+    return bool(words.apng or words.video)
+
+
+def _asks_for_many(words: argparse.Namespace) -> bool:
+    """Whether words ask for the pictures of a trace or of a part of it."""
+    is_part = words.to is not None or words.from_ != 1
+    return bool(words.folder or _moves(words) or words.beam or is_part)
+
+
 def _add_conversions(commands: cli.Commands) -> None:
     told = "makes a script of a trace"
     made = cli.command(commands, "convert", _job("convert_trace"), told, CONVERTING)
@@ -180,48 +198,40 @@ def _add_conversions(commands: cli.Commands) -> None:
     add(made, "SCRIPT", "the script; - is standard output", type=Output)
     _add_listing(made)
     told = "compares a script's report with the trace; takes the options of convert"
-    example = "tools/vga-trace check examples/typed-line.trace report.txt"
+    example = "zaklimot trace check examples/typed-line.trace report.txt"
     made = cli.command(commands, "check", _job("check_report"), told, example)
     _add_trace(made)
     add(made, "REPORT", "the report; - is standard input", type=Input)
     told = "tells at most N kinds of refusals, of reads, and of reads that differ (default: 40)"
     add(made, "--most N", told, type=number_to(MOST_KINDS), default=40)
     _add_listing(made)
-    told = "counts a trace's cycles by kind"
-    example = "tools/vga-trace kinds examples/typed-line.trace"
-    _add_trace(cli.command(commands, "kinds", _job("count_kinds"), told, example))
 
 
-def parser(qemu: Sequence[str] = ()) -> argparse.ArgumentParser:
-    """The parser; the words for qemu, behind `--`, are none of its own."""
-    told = "Makes scripts of what software did to a VGA."
-    tool = cli.tool_parser("vga-trace", told, CONVERTING, "docs/TRACES.md", cli.DIFFERS)
-    commands = tool.add_subparsers(required=True, metavar="COMMAND")
-    _add_conversions(commands)
-    told = "makes the pictures of a trace, in real time"
-    example = "tools/vga-trace pictures examples/typed-line.trace --apng typed-line.png"
-    made = cli.command(commands, "pictures", _job("make_pictures"), told, example)
-    _add_trace(made)
-    _add_pictures(made)
-    add_seeing(commands)
+def add_trace(commands: cli.Commands, qemu: Sequence[str] = ()) -> None:
+    """Adds the command `trace`, with its own commands; the words for qemu, behind `--` of `record`,
+    are none of them."""
+    told = "records what software does to a VGA, makes scripts and pictures of it, and judges it"
+    made = cli.group(commands, "trace", told, CONVERTING, "docs/TRACES.md")
+    _add_recording(made, qemu)
+    _add_conversions(made)
+    told = "makes the pictures of a trace, in real time, or the picture of a moment"
+    example = "zaklimot trace pictures examples/typed-line.trace --apng typed-line.png"
+    pictures = cli.command(made, "pictures", _job("make_pictures"), told, example)
+    _add_trace(pictures)
+    _add_pictures(pictures)
+    add_text(made)
+
+
+def _add_recording(commands: cli.Commands, qemu: Sequence[str]) -> None:
     told = "records on qemu or on the page's machine, replays, and compares the screens of both"
-    example = "tools/vga-trace record recorded --key 2:ret -- -cdrom disc.iso"
+    example = "zaklimot trace record recorded --key 2:ret -- -cdrom disc.iso"
     note = "After `--` stand qemu's words for what it boots."
     usage = (
-        "vga-trace record [OPTION..] FOLDER -- QEMU-WORD..\n"
-        "       vga-trace record [OPTION..] FOLDER --in-page FILE\n"
-        "       vga-trace record FOLDER --again"
+        "zaklimot trace record [OPTION..] FOLDER -- QEMU-WORD..\n"
+        "       zaklimot trace record [OPTION..] FOLDER --in-page FILE\n"
+        "       zaklimot trace record FOLDER --again"
     )
     job = _job("record_software")
     made = cli.command(commands, "record", job, told, example, note, usage=usage)
     made.set_defaults(qemu=list(qemu) or None)
     _add_record(made)
-    return tool
-
-
-def main(words: Optional[Sequence[str]] = None) -> int:
-    """Runs a command line, and answers its exit status. What stands behind `--` of `record` is for
-    qemu."""
-    given = sys.argv[1:] if words is None else list(words)
-    end = given.index("--") if given[:1] == ["record"] and "--" in given else len(given)
-    return cli.runner(lambda: parser(given[end + 1 :]))(given[:end])
