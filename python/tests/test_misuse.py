@@ -12,7 +12,7 @@ import sys
 import threading
 import unittest
 import weakref
-from typing import Any, Callable
+from typing import Any, Callable, Iterator
 
 import zaklimot
 from zaklimot import Card
@@ -73,6 +73,7 @@ CALLS: dict[str, tuple[Any, ...]] = {
     "save_fixed_into": (bytearray(1),),
     "restore_fixed": (b"",),
     "run_on": ("frame",),
+    "run_in_parts": ("frame",),
     "explain_step": ("frame", 0),
     "explain_dot": (),
     "explain_put": (0xA0000, 1),
@@ -112,6 +113,14 @@ MOST = {
 NO_NUMBERS = (1.0, 1.5, "1", b"1", None, [1], 1j, object(), float("nan"), float("inf"))
 
 
+def called(card: Card, name: str, values: tuple[Any, ...]) -> None:
+    """Calls a method of a card; parts are taken."""
+    done = getattr(card, name)(*values)
+    if isinstance(done, Iterator):
+        for _ in done:
+            pass
+
+
 class Closed(unittest.TestCase):
     def test_each_method_has_its_place_here(self) -> None:
         methods = {
@@ -127,7 +136,7 @@ class Closed(unittest.TestCase):
         self.assertFalse(card.is_open)
         for name, values in CALLS.items():
             with self.subTest(name), self.assertRaises(zaklimot.Closed) as caught:
-                getattr(card, name)(*values)
+                called(card, name, values)
             self.assertEqual(caught.exception.number, 20)
         with self.assertRaises(zaklimot.Closed), card:
             pass
@@ -151,7 +160,7 @@ class Closed(unittest.TestCase):
         card = Card.__new__(Card)
         for name, values in CALLS.items():
             with self.subTest(name), self.assertRaises(AttributeError):
-                getattr(card, name)(*values)
+                called(card, name, values)
 
     def test_cards_are_not_copied(self) -> None:
         with Card() as card:
@@ -194,7 +203,7 @@ class Broken(unittest.TestCase):
         for name in sorted(set(CALLS) - {"close"}):
             with self.subTest(name), self.broken() as card:
                 with self.assertRaises(zaklimot.Broken) as caught:
-                    getattr(card, name)(*CALLS[name])
+                    called(card, name, CALLS[name])
                 self.assertEqual((caught.exception.number, card.is_open), (29, False))
                 self.assertRaises(zaklimot.Closed, card.put, 0xA0000, 1)
 
@@ -282,6 +291,8 @@ class Numbers(unittest.TestCase):
                     zaklimot.run(wrong)
                 with self.assertRaises(TypeError):
                     self.card.run_on(wrong)
+                with self.assertRaises(TypeError):
+                    self.card.run_in_parts(wrong)
 
     def test_buffers(self) -> None:
         drawing: tuple[Callable[..., object], ...] = (
@@ -338,8 +349,10 @@ class Numbers(unittest.TestCase):
 
     def test_slices_out_of_range(self) -> None:
         for first, most in ((-1, 1), (0, -1), (2**32, 1), (0, 2**32)):
-            self.assert_raises(ValueError, "run_on", ("frame", first, most))
-        self.assert_raises(TypeError, "run_on", ("frame", 1.5, 1))
+            for name in ("run_on", "run_in_parts"):
+                self.assert_raises(ValueError, name, ("frame", first, most))
+        for name in ("run_on", "run_in_parts"):
+            self.assert_raises(TypeError, name, ("frame", 1.5, 1))
 
 
 class Threads(unittest.TestCase):

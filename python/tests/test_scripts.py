@@ -4,10 +4,13 @@ from __future__ import annotations
 
 import unittest
 from typing import Optional
+from unittest import mock
 
 import zaklimot
 from cards import Call
-from zaklimot import Card
+from zaklimot import Card, Report
+from zaklimot._card import PART_ROOM
+from zaklimot._running import parts
 
 TEXT = (
     "int ax=13\nput A0000 0F\nget A0000\nframe\nin 60\ngetw A0000\nint ax=1017 cx=1\nshow"
@@ -129,6 +132,64 @@ class Slices(unittest.TestCase):
                     if part.taken < most:
                         break
             self.assertEqual((raw, first), (whole.raw, 9))
+
+    def test_parts_make_the_whole(self) -> None:
+        """Whatever time a part has. A part's report has no more bytes than one step's may have."""
+        text = "version 2\nint ax=12\nrepeat 9\nout 3C4 0F\nframe\nend\nrepeat 2000\nget A0000\nend"
+        whole = zaklimot.run(text)
+        with Card() as card:
+            card.run_on(text)
+            state = card.save()
+        for seconds in (0.0, 0.001, 1e6):
+            with Card() as card:
+                parts = list(card.run_in_parts(text, seconds=seconds))
+                self.assertEqual(b"".join(part.raw for part in parts), whole.raw)
+                self.assertEqual(sum(part.taken for part in parts), whole.taken)
+                self.assertTrue(all(len(part.raw) <= PART_ROOM for part in parts))
+                self.assertEqual(card.save(), state)
+
+    def test_how_long_parts_are(self) -> None:
+        """To pass over steps may take long: no part is the shorter for it."""
+        for passing, of_step, length, lowest, highest in (
+            (0.0, 0.0, 10, 10, 14),
+            (0.5, 0.0, 10, 10, 14),
+            (0.5, 1e-6, 10, 10, 14),
+            (0.0, 1e-3, 10, 1000, 1100),
+            (0.5, 1e-3, 10, 40, 60),
+            (0.0, 1.0, 10, 99_900, 100_000),
+            (0.0, 0.0, 1 << 20, 33_333, 50_100),
+            (0.0, 0.0, 1 << 22, 100_000, 100_000),
+        ):
+            now, written = 0.0, memoryview(bytes(PART_ROOM))
+
+            def take(first: int, most: int) -> Report:
+                nonlocal now
+                now += passing + most * of_step
+                if most > 1 and most * length > PART_ROOM:
+                    raise zaklimot.NoRoom
+                return Report(written[: most * length], most)
+
+            with self.subTest((passing, of_step, length)):
+                with mock.patch("time.monotonic", lambda: now):
+                    taken = [one.taken for one in parts(take, 0, 100_000, 0.1, PART_ROOM)]
+                self.assertEqual(sum(taken), 100_000)
+                self.assertTrue(lowest <= len(taken) <= highest, len(taken))
+
+    def test_parts_of_some_steps(self) -> None:
+        code = zaklimot.assemble(TEXT)
+        for first, most in ((0, 0), (0, 3), (2, 5), (8, 9), (9, 1), (50, 2)):
+            with Card() as card, Card() as other:
+                for done in (card, other):
+                    done.run_on(code, 0, first)
+                raw = b"".join(part.raw for part in card.run_in_parts(code, first, most))
+                self.assertEqual(raw, other.run_on(code, first, most).raw)
+
+    def test_a_fault_ends_the_parts(self) -> None:
+        """What was taken before it is told, and the card is left there."""
+        with Card() as card, self.assertRaises(zaklimot.BadStep) as caught:
+            for part in card.run_in_parts(b"VGAS\x01\x0b\x63"):
+                self.fail(f"{part.raw!r} is told")
+        self.assertEqual(caught.exception.place, 6)
 
     def test_a_slice_longer_than_its_room_is_taken_once(self) -> None:
         script = "version 2\nint ax=12\nrepeat 12\nframe\nend\nshow beam"

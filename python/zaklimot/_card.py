@@ -6,7 +6,7 @@ import ctypes
 from fractions import Fraction
 from functools import lru_cache
 from operator import index
-from typing import Any, Optional, Union, overload
+from typing import Any, Iterator, Optional, Union, overload
 
 from . import _structs as s
 from ._errors import BadArgument, Closed, error_of
@@ -16,6 +16,7 @@ from ._memory import Room, given, lent, writable
 from ._numbers import BYTE, LONG, WORD, in_range
 from ._pictures import Colour, IndexedPicture, Lines, Picture, ScanLine, XrgbPicture
 from ._report import Report
+from ._running import PART_SECONDS, parts
 from ._scripts import script_bytes
 from ._state import (
     Answer,
@@ -31,8 +32,8 @@ from ._state import (
 )
 
 NO_ROOM = 25
-# Room for the report of one step.
-STEP_ROOM = s.MOST_RGB + 100
+# Room for the report of one step, and for that of a part of a script.
+STEP_ROOM, PART_ROOM = s.MOST_RGB + 100, 1 << 22
 # Room for the cycles of most calls.
 FIRST_CYCLES = 4096
 _byref, _U8, _U16 = ctypes.byref, s.U8, s.U16
@@ -747,20 +748,43 @@ class Card(ExplainingCard):
             return self._slice(code, numbers, self._room(STEP_ROOM, "report"), None)
         return self._slice(code, numbers, self._room(STEP_ROOM, "report"), self.save())
 
+    def run_in_parts(
+        self, script: Any, first: int = 0, most: int = LONG, seconds: float = PART_SECONDS
+    ) -> Iterator[Report]:
+        """Takes steps as `run_on` does, and gives their reports part by part, in order.
+
+        A part takes about so many seconds at most, unless one step takes longer, and its report has
+        at most 4 MB: a long script needs little memory, and Ctrl-C comes in time. Use the card for
+        nothing else meanwhile. Raises as `run_on`.
+        """
+        code = script_bytes(script)
+        end = in_range("first", first, LONG) + in_range("most", most, LONG)
+        room = self._room(PART_ROOM, "parts")
+
+        def take(first: int, most: int) -> Report:
+            return self._slice(code, (first, most), room, self.save() if most > 1 else None, False)
+
+        return parts(take, first, end, seconds, PART_ROOM)
+
     def _slice(
-        self, code: bytes, numbers: tuple[int, int], room: Room, state: Optional[bytes]
+        self,
+        code: bytes,
+        numbers: tuple[int, int],
+        room: Room,
+        state: Optional[bytes],
+        is_grown: bool = True,
     ) -> Report:
         """The report of a slice. If the room is too small, the card is restored and takes the steps
-        again."""
+        again in more room, if that may grow; else NoRoom is raised."""
         length, taken, place = s.SIZE(), s.SIZE(), s.SIZE()
         told = (_byref(length), _byref(taken), _byref(place))
         status = self._calls["run_on"](
             self._card, code, len(code), *numbers, room.pointer, room.size, *told
         )
         if not status:
-            return Report(bytes(room.view[: length.value]))
+            return Report(bytes(room.view[: length.value]), taken.value)
         if state is not None and self._struct.is_open:
             self.restore(state)
-        if status == NO_ROOM and state is not None:
+        if status == NO_ROOM and state is not None and is_grown:
             return self._slice(code, numbers, Room(length.value), state)
         raise error_of(status, place.value)

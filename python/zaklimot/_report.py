@@ -65,8 +65,9 @@ class Report(Sequence[Step]):
     `report[0]` is the answer of the first step. `taken` is how many steps there are.
     """
 
-    def __init__(self, raw: bytes) -> None:
+    def __init__(self, raw: bytes, taken: Optional[int] = None) -> None:
         self.raw = raw
+        self._taken = taken
 
     @cached_property
     def _steps(self) -> list[Step]:
@@ -92,7 +93,7 @@ class Report(Sequence[Step]):
     @property
     def taken(self) -> int:
         """How many steps were taken."""
-        return len(self._steps)
+        return len(self._steps) if self._taken is None else self._taken
 
     @property
     def pictures(self) -> list[Picture]:

@@ -30,7 +30,7 @@ def script_bytes(script: AnyScript) -> bytes:
     return bytes(memoryview(script))
 
 
-def _other_form(name: str, given: bytes) -> bytes:
+def _other_form(name: str, given: bytes) -> memoryview:
     """Assembles or disassembles, by two calls: the first says how long the result is."""
     call, length, place = loaded().calls[name], s.SIZE(), s.SIZE()
     told = (ctypes.byref(length), ctypes.byref(place))
@@ -41,7 +41,7 @@ def _other_form(name: str, given: bytes) -> bytes:
         status = call(given, len(given), made, length.value, *told)
     if status:
         raise error_of(status, place.value)
-    return bytes(made)[: length.value]
+    return memoryview(made)[: length.value]
 
 
 def _text_bytes(text: AnyText) -> bytes:
@@ -56,7 +56,7 @@ def assemble(text: AnyText) -> bytes:
     `text` is a str, or the text's bytes. Raises BadLine, whose `place` is the line's number from 1,
     and TooLong.
     """
-    return _other_form("assemble", _text_bytes(text))
+    return _other_form("assemble", _text_bytes(text)).tobytes()
 
 
 def explain_text(text: AnyText) -> Optional[Mistake]:
@@ -94,7 +94,12 @@ def disassemble(script: Union[bytes, bytearray, memoryview]) -> str:
 
     Raises a ScriptError if the bytes are not a script.
     """
-    return _other_form("print", bytes(memoryview(script))).decode("ascii")
+    return str(disassembled(script), "ascii")
+
+
+def disassembled(script: Union[bytes, bytearray, memoryview]) -> memoryview:
+    """The same as bytes, in memory of its own."""
+    return _other_form("print", bytes(memoryview(script)))
 
 
 def run_script(script: AnyScript, fonts: bytes) -> bytes:

@@ -7,7 +7,7 @@ import subprocess
 import sys
 import unittest
 from pathlib import Path
-from typing import Optional
+from typing import Optional, Union
 
 from zaklimot.commands.script.words import FONTS
 
@@ -82,7 +82,7 @@ def bmp(dots: Dots, size: Optional[tuple[int, int]] = None) -> bytes:
 
 @unittest.skipIf(PILLOW is None, "no Python has Pillow: install python3-pil")
 class Beside(Folder):
-    def compared(self, dots: Dots, image: Path | str) -> tuple[int, str, str]:
+    def compared(self, dots: Dots, image: Union[Path, str]) -> tuple[int, str, str]:
         """What is told of a picture of these dots, and an image that Pillow reads."""
         dark = b"".join(bytes(value >> 2 for value in dot) for row in dots for dot in row)
         report = self.report("r", ppm(len(dots[0]), len(dots), dark))
@@ -142,7 +142,7 @@ class Beside(Folder):
         report = self.folder / "report"
         report.write_bytes(run_program("go", script, "--fonts", FONTS).report)
         count = len(script.read_text("ascii").splitlines())
-        words = (TOP / "zaklimot", "compare", report, image, "--step", str(count))
-        done = ended(*PYTHON, *words)
+        comparing = ("compare", report, image, "--step", str(count))
+        done = ended(*PYTHON, TOP / "zaklimot", *comparing)
         self.assertEqual((done[0], done[2]), (0, ""), done[1])
         self.assertEqual(ended(*words[:2], env=environment)[0], 2)

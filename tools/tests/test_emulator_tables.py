@@ -161,7 +161,7 @@ class Tables(Folder):
     def test_a_command_that_is_no_text(self) -> None:
         for command in (5, None, ["--on qemu"]):
             other = self.write("two", json.dumps({"command": command, "rules": []}))
-            hold_undone(self, self.table(other), f"^vga-emulators: {other}: it isn't what `vga-rep")
+            hold_undone(self, self.table(other), f"^vga-emulators: {other}: it isn't what `zakli")
 
     def test_a_page_is_a_file(self) -> None:
         one = self.results("one", "--on qemu", rule("R.", case("a/1", "agrees", 1)))

@@ -50,6 +50,7 @@ from .tools import (
     PYTHON,
     SIGNALS,
     TOOLS,
+    path_of,
     TOP,
     Folder,
     begin,
@@ -117,7 +118,6 @@ class Sleeping(unittest.TestCase):
 # The words of tools that start programs.
 STARTING = (
     "zaklimot suite {harness} --list {list}",
-    "zaklimot run {script} --try",
     "vga-library make {made}",
     "vga-release {made}",
     "vga-page module {made}",
@@ -151,7 +151,7 @@ class Endings(unittest.TestCase):
         """Exit status and standard error of a tool's help, with its streams as a shell sets
         them."""
         status, _, said = ended(
-            "/bin/sh", "-c", f'"$@" {rest}', "sh", *PYTHON, TOOLS / name, "--help"
+            "/bin/sh", "-c", f'"$@" {rest}', "sh", *PYTHON, path_of(name), "--help"
         )
         return status, said
 
@@ -178,7 +178,7 @@ class Endings(unittest.TestCase):
                 os.close(reader)
                 with open(writer, "wb"):
                     self.assertEqual(
-                        ended(*PYTHON, TOOLS / name, "--help", stdout=writer), (141, None, "")
+                        ended(*PYTHON, path_of(name), "--help", stdout=writer), (141, None, "")
                     )
 
 

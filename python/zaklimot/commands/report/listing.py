@@ -24,6 +24,7 @@ from zaklimot.commands.core.streams import JsonList, counted, writing
 from zaklimot.commands.core.trouble import Trouble
 from zaklimot.commands.explain.faults import explained
 from zaklimot.commands.explain.reasons import Reasons
+from zaklimot.commands.script.own import OwnProgram
 from zaklimot.commands.script.program import BuiltProgram, fault_of
 from zaklimot.commands.script.reading import text_of
 
@@ -146,7 +147,7 @@ class RunScript:
         self,
         path: str,
         data: bytes,
-        program: BuiltProgram,
+        program: Union[BuiltProgram, OwnProgram],
         shown: str,
         printed: BinaryIO,
     ) -> None:
@@ -249,6 +250,12 @@ class RunScript:
 
 
 def _wait_for(report: BinaryIO, shown: str, progress: Progress) -> None:
+    """Tells how long a program has given no answer yet."""
+    try:
+        report.fileno()
+    except OSError:
+        # The library answers in this process.
+        return
     begun = time.monotonic()
     while IS_POSIX and progress.is_wanted and not select.select([report], [], [], PAUSE)[0]:
         if progress.is_due():

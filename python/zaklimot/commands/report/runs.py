@@ -5,7 +5,7 @@ import os
 import tempfile
 from contextlib import contextmanager
 from pathlib import Path
-from typing import BinaryIO, Iterator, Optional, cast
+from typing import BinaryIO, Iterator, Optional, Union, cast
 
 from zaklimot.commands.core.cli import say
 from zaklimot.commands.core.files import STANDARD, name_of
@@ -13,6 +13,7 @@ from zaklimot.commands.core.progress import Progress
 from zaklimot.commands.core.streams import teller
 from zaklimot.commands.core.trouble import AGREED, DIFFERED
 from zaklimot.commands.explain.faults import read_script
+from zaklimot.commands.script.own import OwnProgram, own_program
 from zaklimot.commands.script.program import BuiltProgram, found_program
 
 from .folders import run_several
@@ -61,7 +62,7 @@ def _is_text(name: str) -> bool:
 def run(words: argparse.Namespace, progress: Progress) -> int:
     """Runs a script, or each one of a folder, and shows each step beside its line and its
     answer."""
-    program = BuiltProgram(found_program(words.vga, BUILD_ONE))
+    program = own_program(words.vga) or BuiltProgram(found_program(words.vga, BUILD_ONE))
 
     def run_one(one: argparse.Namespace, tell: Tell, warn: Tell, json: Optional[BinaryIO]) -> int:
         return run_script(one, program, Progress(False), tell, warn, json)
@@ -73,7 +74,7 @@ def run(words: argparse.Namespace, progress: Progress) -> int:
 
 def run_script(
     words: argparse.Namespace,
-    program: BuiltProgram,
+    program: Union[BuiltProgram, OwnProgram],
     progress: Progress,
     tell: Tell,
     warn: Tell,

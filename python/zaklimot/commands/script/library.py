@@ -4,8 +4,10 @@ the C file, which is compiled once."""
 import ctypes
 import os
 from functools import cache
+from typing import Optional
 
 from zaklimot import _library
+from zaklimot._file import kind_of
 from zaklimot.commands import TOP
 from zaklimot.commands.core.streams import to_read
 from zaklimot.commands.core.trouble import Trouble
@@ -17,26 +19,43 @@ NAMED = "ZAKLIMOT_LIBRARY"
 NO_LIBRARY = f"there is no library, and portable/ has no sources of it: name one by {NAMED}"
 # The library of an unpacked release, which this system may not be able to load.
 RELEASED = TOP / "lib" / LIBRARY_NAME
+# The library that `tools/vga-library make kit` makes.
+MADE = TOP / "kit" / "lib" / LIBRARY_NAME
 
 
-def library_path() -> str:
-    """The library's file: the one that the environment names, a release's, or that of the C
-    file."""
+def ready_library() -> Optional[str]:
+    """The file of a library that is here already: the one that the environment names, a release's,
+    an installed one, or one that `tools/vga-library make kit` made; None if none is."""
     named = os.environ.get(NAMED)
     if named:
         return to_read(named)
-    if _loads(str(RELEASED)):
-        return str(RELEASED)
+    for path in (str(RELEASED), _library._found(), str(MADE)):
+        if _fits(path):
+            return path
+    return None
+
+
+def library_path() -> str:
+    """The file of the library that is here already, or of that of the C file."""
+    ready = ready_library()
+    if ready is not None:
+        return ready
     if not has_sources():
         raise Trouble(NO_LIBRARY)
     return portable_library()
 
 
-def _loads(path: str) -> bool:
-    """Whether a file is there and can be loaded."""
+def kind_of_ready() -> Optional[str]:
+    """Of which kind the library is that is here already; None if none is."""
+    ready = ready_library()
+    return None if ready is None else kind_of(ready)
+
+
+def _fits(path: str) -> bool:
+    """Whether a file is there, and is a library of this version that can be loaded."""
     try:
-        return os.path.isfile(path) and ctypes.CDLL(path) is not None
-    except OSError:
+        return os.path.isfile(path) and _library._fits(ctypes.CDLL(path).zak_version())
+    except (OSError, AttributeError):
         return False
 
 
