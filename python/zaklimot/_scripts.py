@@ -15,6 +15,8 @@ NO_ROOM = 25
 # Room for a run's report; the system gives memory only for what is written. A longer report is made
 # again.
 FIRST_ROOM = 1 << 25
+# So many times as long is the text of most scripts at most, and so many bytes have room at least.
+MOST_LONGER, FEWEST = 4, 4096
 # The forms of a script: its text, its bytes, or an object with a method `text`.
 AnyScript = Union[str, bytes, bytearray, memoryview, Any]
 AnyText = Union[str, bytes, bytearray, memoryview]
@@ -31,17 +33,17 @@ def script_bytes(script: AnyScript) -> bytes:
 
 
 def _other_form(name: str, given: bytes) -> memoryview:
-    """Assembles or disassembles, by two calls: the first says how long the result is."""
+    """Assembles or disassembles. A result that is longer than others are is made again."""
     call, length, place = loaded().calls[name], s.SIZE(), s.SIZE()
     told = (ctypes.byref(length), ctypes.byref(place))
-    made = (s.U8 * 1)()
-    status = call(given, len(given), made, 0, *told)
+    made = Room(len(given) * MOST_LONGER + FEWEST)
+    status = call(given, len(given), made.pointer, made.size, *told)
     if status == NO_ROOM:
-        made = (s.U8 * length.value)()
-        status = call(given, len(given), made, length.value, *told)
+        made = Room(length.value)
+        status = call(given, len(given), made.pointer, made.size, *told)
     if status:
         raise error_of(status, place.value)
-    return memoryview(made)[: length.value]
+    return made.view[: length.value]
 
 
 def _text_bytes(text: AnyText) -> bytes:

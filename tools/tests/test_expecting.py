@@ -178,6 +178,9 @@ class Several(Fake):
                 " scripts, 1 differs\n"
             ),
         )
+        # What is as expected is not told where that is asked for.
+        quiet = self.run_script("--quiet", path=str(self.tests))[1]
+        self.assertEqual(quiet, "".join(output.splitlines(True)[1:]))
         # One at a time, if no more are asked for; and each gets the options.
         self.begin_program(ALONE)
         output = self.run_script("--strict", path=str(self.tests))[1]

@@ -11,7 +11,6 @@ import unittest
 from itertools import groupby
 from typing import Iterator
 
-from zaklimot.commands.core.version import version
 from zaklimot_dev.emulators import traces, words as recorded
 from zaklimot_dev.library_tests import (
     binding_words,
@@ -35,6 +34,7 @@ from .tools import (
     call,
     ended,
     hold_undone,
+    hold_version,
     main_of,
     path_of,
 )
@@ -186,7 +186,7 @@ class Words(unittest.TestCase):
 
     def test_the_version_of_the_header_and_words_that_mean_nothing(self) -> None:
         for name in NAMES:
-            self.assertEqual(call(main_of(name), "--version"), (0, f"{name} {version()}\n", ""))
+            hold_version(self, name, call(main_of(name), "--version"))
             hold_undone(self, call(main_of(name), "--no-such-word"), f"{name}: error: ")
 
 

@@ -6,12 +6,12 @@ import unittest
 from typing import Any
 from unittest import mock
 
-from zaklimot._file import PORTABLE, PROVED
+from zaklimot._file import PORTABLE, PROVED, UNKNOWN
 from zaklimot.commands.report import runs
 from zaklimot.commands.script import own
 from zaklimot.commands.script.words import FONTS
 
-from .tools import EXAMPLES, PROGRAM, Folder, run_tool, want_library, want_program
+from .tools import EXAMPLES, PROGRAM, Folder, patched, run_tool, want_library, want_program
 
 # Texts, and how their runs end: each with a fault, or cut off.
 ENDS = {
@@ -96,3 +96,21 @@ class Chosen(unittest.TestCase):
             ):
                 self.assertEqual(own.own_program(None) is not None, is_own)
                 self.assertIsNone(own.own_program("vga"))
+
+    def test_what_runs_scripts_is_told(self) -> None:
+        for kind, ready, built, told in (
+            (PROVED, "/lib.so", "/vga", "by the library /lib.so, which is proved"),
+            (PORTABLE, "/lib.so", None, "by the library /lib.so, which is tested, not proved"),
+            (UNKNOWN, "/lib.so", None, "by the library /lib.so, and no file beside it says "),
+            (UNKNOWN, "/lib.so", "/vga", "by the program /vga"),
+            (None, None, "/vga", "by the program /vga"),
+            (None, None, None, "by the library of portable/zaklimot.c, which is tested, not pro"),
+        ):
+            given = {
+                "kind_of_ready": lambda kind=kind: kind,
+                "kind_of": lambda _, kind=kind: kind,
+                "ready_library": lambda ready=ready: ready,
+                "built_program": lambda built=built: built,
+            }
+            with self.subTest(told), patched(own, given):
+                self.assertTrue(own.told_runner().startswith(f"scripts run {told}"))

@@ -175,6 +175,11 @@ class Text(Seen):
                 trace = self.write("wrong", data)
                 for words in (("text", trace), ("pictures", trace, "--png", "-")):
                     hold_undone(self, self.run_command(*words), told)
+        # It is told by the name that was typed.
+        for words in (("text", "none"), ("pictures", "none", "--png", "-")):
+            hold_undone(
+                self, self.run_command(*words), "^zaklimot: none: No such file or directory$"
+            )
 
 
 class Walked(Folder):

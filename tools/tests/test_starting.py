@@ -97,6 +97,13 @@ class Starting(Folder):
         assert found is not None
         start.assert_called_once_with(found[1])
 
+    def test_an_older_python_gets_one_sentence(self) -> None:
+        self.write("sitecustomize.py", "import sys\nsys.version_info = (3, 8, 18)\n")
+        with mock.patch.dict(os.environ, PYTHONPATH=str(self.folder)):
+            done = ended(path_of("zaklimot"), "--help")
+        told = "this needs Python 3.9 or later, not 3.8\n"
+        self.assertEqual(done, (2, "", told))
+
     def test_all_begin_alike(self) -> None:
         begun = set()
         for name in (*NAMES, "vga"):

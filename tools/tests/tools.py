@@ -34,6 +34,7 @@ from typing import (
 from unittest import mock
 
 from zaklimot.commands.core.trouble import Trouble
+from zaklimot.commands.core.version import version
 from zaklimot_dev.testing.running import BUILT, TESTED
 from zaklimot_dev.testing.style import PYTHON as STARTING
 from zaklimot.commands.script.library import use_library
@@ -273,6 +274,15 @@ def hold(
     for *given, wanted in table:
         with test.subTest(given):
             test.assertEqual(work(*given), wanted)
+
+
+def hold_version(test: unittest.TestCase, name: str, done: Sequence[Any]) -> None:
+    """Holds what a tool has answered to `--version`. What runs scripts the command of users tells
+    alone."""
+    status, output, said = done
+    first, *more = output.splitlines()
+    test.assertEqual((status, first, said), (0, f"{name} {version()}", ""))
+    test.assertEqual([line[:16] for line in more], ["scripts run by t"] * (name == COMMAND))
 
 
 def hold_undone(test: unittest.TestCase, done: Sequence[Any], told: Any) -> None:

@@ -62,6 +62,13 @@ def _compare(commands: cli.Commands) -> None:
     _add_compare(cli.command(commands, "compare", job, told, example))
 
 
+def _runner() -> str:
+    """What runs scripts. No other word of the command line wants the library."""
+    from zaklimot.commands.script.own import told_runner
+
+    return told_runner()
+
+
 def parser(qemu: Sequence[str] = ()) -> argparse.ArgumentParser:
     """The parser of the command line; the words for qemu, behind `--` of `trace record`, are none
     of its own."""
@@ -72,6 +79,7 @@ def parser(qemu: Sequence[str] = ()) -> argparse.ArgumentParser:
         "zaklimot run examples/lines-and-text.vga --show",
         "tools/README.md",
         cli.DIFFERS,
+        _runner,
     )
     commands = tool.add_subparsers(required=True, metavar="COMMAND")
     add_command(commands, "run")

@@ -32,10 +32,13 @@ Job = Callable[[argparse.Namespace, Progress], Optional[int]]
 
 
 class _Version(argparse.Action):
-    """Prints the release's number, and ends the tool. No other command wants the header."""
+    """Prints the release's number, and ends the tool. No other command wants the header. `const`
+    tells more, if there is more to tell."""
 
     def __call__(self, parser: argparse.ArgumentParser, *_: object) -> None:
         sys.stdout.write(f"{parser.prog} {version()}\n")
+        if self.const is not None:
+            sys.stdout.write(f"{self.const()}\n")
         parser.exit()
 
 
@@ -71,17 +74,23 @@ def say(text: str) -> None:
 
 
 def tool_parser(
-    name: str, does: str, example: str, page: str, statuses: str = DOES
+    name: str,
+    does: str,
+    example: str,
+    page: str,
+    statuses: str = DOES,
+    more: Optional[Callable[[], str]] = None,
 ) -> argparse.ArgumentParser:
     """The parser of a tool, whose help has an example of its use and names the page that tells
-    more."""
+    more. `more` tells what stands below its version."""
     made = _Parser(
         prog=name,
         description=does,
         formatter_class=argparse.RawDescriptionHelpFormatter,
         epilog=f"Example:\n  {example}\n\n{statuses}\n{page} tells more.",
     )
-    made.add_argument("--version", action=_Version, nargs=0, help="prints the release's number")
+    told = "prints the release's number" + ("" if more is None else ", and what runs scripts")
+    made.add_argument("--version", action=_Version, nargs=0, const=more, help=told)
     return made
 
 

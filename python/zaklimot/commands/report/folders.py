@@ -70,7 +70,8 @@ def run_several(words: argparse.Namespace, run_one: RunOne, progress: Progress) 
     with tempfile.TemporaryDirectory(prefix="zaklimot-") as name:
         for one in _runs(words, paths, run_one, Path(name), progress):
             progress.clear()
-            tell(one.output)
+            # The answers alone are asked for, where they differ.
+            tell("" if words.quiet and one.status == AGREED else one.output)
             sys.stdout.flush()
             say(one.said)
             ran.append(one._replace(output=one.output[:MOST_LINES]))

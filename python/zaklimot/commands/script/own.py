@@ -9,14 +9,14 @@ from pathlib import Path
 from typing import Any, BinaryIO, Callable, Iterator, Optional, cast
 
 import zaklimot
-from zaklimot._file import PROVED
+from zaklimot._file import PORTABLE, PROVED, kind_of
 from zaklimot._scripts import disassembled
 from zaklimot.format import FAULTS, HEADERS, MOST_BYTES, STATE, encoded, parse_line
 from zaklimot.commands.core.processes import IS_LINUX, Streamed
 from zaklimot.commands.core.streams import bytes_of
 from zaklimot.commands.core.trouble import Trouble
 
-from .library import kind_of_ready, use_library
+from .library import kind_of_ready, ready_library, use_library
 from .program import built_program
 
 # A longer file is no font file.
@@ -26,6 +26,9 @@ BUFFER = 1 << 18
 # What glibc's mallopt calls the size from which memory comes from the system, and goes back to it.
 MMAP_THRESHOLD = -3
 FROM_SYSTEM = 1 << 17
+# What is told of a library by its kind, and of one of which no file says it.
+KINDS = {PROVED: "which is proved", PORTABLE: "which is tested, not proved"}
+UNTOLD = "and no file beside it says whether it is proved"
 
 
 class _Parts(io.RawIOBase):
@@ -130,3 +133,13 @@ def own_program(named: Optional[str]) -> Optional[OwnProgram]:
     if named is not None or (kind_of_ready() != PROVED and built_program() is not None):
         return None
     return OwnProgram()
+
+
+def told_runner() -> str:
+    """What runs scripts here, where no program is named."""
+    if own_program(None) is None:
+        return f"scripts run by the program {built_program()}"
+    ready = ready_library()
+    if ready is None:
+        return "scripts run by the library of portable/zaklimot.c, which is tested, not proved"
+    return f"scripts run by the library {ready}, {KINDS.get(kind_of(ready), UNTOLD)}"

@@ -3,6 +3,7 @@ in a folder of the user's cache."""
 
 import hashlib
 import os
+import re
 import shlex
 import shutil
 import stat
@@ -29,7 +30,7 @@ SOURCES = tuple(
 )
 FLAGS = ("-std=c99", "-O2")
 # Where $CC names no compiler, the first of these that is in the path.
-COMPILERS = ("cc", "gcc", "clang")
+COMPILERS = ("cc", "gcc", "clang", "tcc")
 # The names of what is compiled, in a folder that its digest names; and the names beside that: of
 # folders in which something is being made, and of the lock.
 NAME = "vga.exe" if os.name == "nt" else "vga"
@@ -43,14 +44,17 @@ MOST_WAITING = 1000
 PAUSE = 0.1
 PAGE = "page/zaklimot.html runs scripts in a browser without one"
 NO_COMPILER = (
-    "there is no C compiler to make the program vga with: install Debian's package gcc or clang,"
-    f" on macOS Xcode's command line tools (xcode-select --install), or name one by CC; {PAGE}"
+    "there is no C compiler to make the program vga with: install Debian's package gcc, clang or"
+    f" tcc, on macOS Xcode's command line tools (xcode-select --install), or name one by CC; {PAGE}"
 )
 COMPILES = (
     "{compiler} compiles {told} from portable/ into {folder} now, in about 30 seconds, and once:"
     " this {kind} is tested, not proved\n"
 )
 WAITS = "another run compiles from portable/ just now: this one waits for it\n"
+# What a compiler tells without the C library's files, and what is told then.
+NO_HEADER = re.compile(r"\.h'? (?:file )?not found|\.h: No such file|crt1\.o")
+HEADERS = "the files of the C library are not here: install Debian's package libc6-dev"
 UNKEPT = (
     "the compiled program can't be kept there: name a folder that can be written by XDG_CACHE_HOME"
 )
@@ -231,7 +235,9 @@ def _compile(compiler: list[str], path: Path, product: Product) -> None:
 
 def _check(done: Done, reason: str, name: str) -> None:
     if done.status:
-        raise Trouble(f"{reason}\n{done.said()}".rstrip(), name)
+        said = done.said()
+        told = f"{HEADERS}; {reason}" if NO_HEADER.search(said) else reason
+        raise Trouble(f"{told}\n{said}".rstrip(), name)
 
 
 def _use(path: Path) -> None:

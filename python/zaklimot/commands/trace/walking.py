@@ -13,7 +13,7 @@ from typing import BinaryIO, Generic, Iterable, Iterator, Sequence, TypeVar, Uni
 from zaklimot import format
 from zaklimot.format import HEADERS, MOST_BYTES, MOST_STEPS, Answer
 from zaklimot.commands.core.progress import Progress
-from zaklimot.commands.core.streams import counted, writing
+from zaklimot.commands.core.streams import counted
 from zaklimot.commands.core.trouble import Trouble
 from zaklimot.commands.report.report import Report
 from zaklimot.commands.script.program import BuiltProgram, fault_of
@@ -108,7 +108,8 @@ class Walk:
         with TemporaryDirectory(prefix="zaklimot-") as name:
             while is_cut:
                 script = Path(name) / "script"
-                with writing(str(script)) as stream:
+                # What is wrong with the file of the items is told by its own name.
+                with script.open("wb") as stream:
                     part = ScriptPart[Tag](stream)
                     part.begin(before)
                     is_cut = self._fill(part, rest)
