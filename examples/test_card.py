@@ -1,5 +1,5 @@
 #!/usr/bin/env python3
-"""Draws a test card as PNG, for tools/vga-picture.
+"""Draws a test card as PNG, for examples/python/image.py.
 
     python3 examples/test_card.py WIDTHxHEIGHT FILE
 
@@ -15,11 +15,11 @@ import sys
 from pathlib import Path
 
 TOP = Path(__file__).resolve().parents[1]
-sys.path.insert(0, str(TOP / "tools"))
+sys.path.insert(0, str(TOP / "python"))
 
-from zaklimot_tools.images.png import Shape, write_png  # noqa: E402
-from zaklimot_tools.core.streams import writing  # noqa: E402
-from zaklimot_tools.core.trouble import Trouble  # noqa: E402
+from zaklimot.commands.images.png import Shape, write_png  # noqa: E402
+from zaklimot.commands.core.streams import writing  # noqa: E402
+from zaklimot.commands.core.trouble import Trouble  # noqa: E402
 from zaklimot.format import Picture  # noqa: E402
 
 Colour = tuple[int, int, int]

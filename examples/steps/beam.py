@@ -1,6 +1,6 @@
 """A toy beam: the clock, input status 1, and the dots of a scan line. docs/RASTER.md has the rules.
 
-    tools/vga-steps check 'python3 examples/steps/beam.py' examples/steps/dots-text.json.gz
+    ./zaklimot steps check 'python3 examples/steps/beam.py' examples/steps/dots-text.json.gz
 
 As a program it answers elements on standard input, a line each, as docs/STEPS.md says.
 """

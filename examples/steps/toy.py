@@ -1,7 +1,7 @@
 """A toy adapter: the memory of a VGA and the registers by which it is written and read, the
 sequencer's and the DAC's ports. docs/HOST-PATH.md and docs/REGISTERS.md have the rules.
 
-    tools/vga-steps check 'python3 examples/steps/toy.py' examples/steps/sequencer.json.gz
+    ./zaklimot steps check 'python3 examples/steps/toy.py' examples/steps/sequencer.json.gz
 
 As a program it answers elements on standard input, a line each, as docs/STEPS.md says.
 """

@@ -1,5 +1,5 @@
 // The time between the steps of a trace (docs/TRACES.md), as dots of the clock that the steps
-// before have chosen. tools/zaklimot_tools/trace/converting.py does the same for `--time`;
+// before have chosen. python/zaklimot/commands/trace/converting.py does the same for `--time`;
 // page/tests/traces.mjs holds both to the same text.
 import { frameSpeed } from "../run/state.js";
 
@@ -13,7 +13,7 @@ const SEQUENCER_COUNT = 5, CRTC_COUNT = 25, WANTED = { 20: [0x20, 0], 23: [0x0f,
 // bit protects the registers below 8.
 const SHAPE = [0, 6, 7], RETRACE_END = 17, PROTECTS = 0x80, PROTECTED_BELOW = 8;
 // What a mode set by interrupt 10 leaves: miscellaneous output, clocking mode, and the registers of
-// the CRT controller. tools/zaklimot_tools/explain/clocks.py has the same.
+// the CRT controller. python/zaklimot/commands/explain/clocks.py has the same.
 const textMode = underline =>
   "5F4F50825581BF1F004F0D0E000000009C8E8F28" + underline + "96B9A3FF";
 const SET_MODE = {

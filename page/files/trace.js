@@ -1,5 +1,5 @@
 // A trace of software (docs/TRACES.md) as a script: each cycle is a step, and what was read is what
-// is expected. Where it tells the time, the clock is advanced between the steps. tools/vga-trace
+// is expected. Where it tells the time, the clock is advanced between the steps. zaklimot trace
 // does the same and more; page/tests/traces.mjs holds both to the same text.
 import { Trouble } from "../common/trouble.js";
 import { hex } from "../common/bytes.js";

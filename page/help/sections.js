@@ -1,5 +1,5 @@
 // The sections of the documentation that the page links to, which it shows itself. They stand in
-// its data, as tools/zaklimot_tools/dev/page/sections.py makes them of docs/.
+// its data, as tools/zaklimot_dev/page/sections.py makes them of docs/.
 import { byId, element, pageLink } from "../common/dom.js";
 
 const LINK = /^(?:([A-Z-]+\.md))?(?:#(.*))?$/;

@@ -1,5 +1,5 @@
 // Pictures as PNG, and pictures that move: the same forms as
-// tools/zaklimot_tools/images/png.py writes.
+// python/zaklimot/commands/images/png.py writes.
 import { Trouble } from "../common/trouble.js";
 import { joinedBytes, throughStream } from "../common/bytes.js";
 

@@ -1,5 +1,5 @@
 // Answers that a script expects, held against those that came (tools/README.md, "An expected
-// answer"). tools/zaklimot_tools/report/expecting.py has the same rules; page/tests/expecting.mjs
+// answer"). python/zaklimot/commands/report/expecting.py has the same rules; page/tests/expecting.mjs
 // holds both to the same verdicts.
 import { CALL_REGISTERS, READING } from "./grammar.js";
 import { bytesOfCodes } from "../common/bytes.js";

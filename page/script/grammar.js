@@ -1,5 +1,5 @@
 // The steps of a script as text: their names, and the numbers behind each. docs/SCRIPT.md tells
-// them whole. bindings/python/src/zaklimot/format/table.py has the same table;
+// them whole. python/zaklimot/format/table.py has the same table;
 // page/tests/reasons.mjs holds the two together.
 
 /** A number of at most so many hexadecimal digits, from 0. */

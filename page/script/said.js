@@ -1,5 +1,5 @@
 // The words of bad lines, faults and refusals, which the tools say too:
-// tools/zaklimot_tools/explain/wordings.json.
+// python/zaklimot/commands/explain/wordings.json.
 import { WORDINGS } from "./wordings.js";
 import { grouped, hex } from "../common/bytes.js";
 

@@ -1,4 +1,4 @@
-// Made of tools/zaklimot_tools/explain/wordings.json by
+// Made of python/zaklimot/commands/explain/wordings.json by
 // `tools/vga-page wordings page/script/wordings.js`.
 /** The words for files and bytes that are no script, and the registers by name, bit and field. */
 export const WORDINGS = {

@@ -29,9 +29,9 @@ test("MD5 of bytes of any length", () => {
 test("each answer against each expectation, as Python judges", () => {
   const source = `
 import io, json, sys
-sys.path.insert(0, "tools")
-from zaklimot_tools.report.expecting import is_as_expected
-from zaklimot_tools.report.report import Report
+sys.path.insert(0, "python")
+from zaklimot.commands.report.expecting import is_as_expected
+from zaklimot.commands.report.report import Report
 report, names, expected = json.load(sys.stdin)
 steps = list(Report(io.BufferedReader(io.BytesIO(report.encode("latin1"))), "report").steps())
 print(json.dumps([[is_as_expected(step, one, name) for one in expected] for step,

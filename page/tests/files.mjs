@@ -118,12 +118,12 @@ test("junk is told, and why", async () => {
 
 const PICTURE = { width: 7, height: 5, rgb: Uint8Array.from({ length: 105 }, (_, i) => (11 * i) % 64) };
 
-test("a picture is saved as vga-report saves it, to the dot", async () => {
+test("a picture is saved as zaklimot saves it, to the dot", async () => {
   const ppm = Buffer.concat([Buffer.from("P6\n7 5\n63\n"), PICTURE.rgb]);
   const report = Buffer.concat([Buffer.from(`1 picture ${ppm.length}\n`), ppm, Buffer.from("\n")]);
   const theirs = written(folder => {
     writeFileSync(folder + "/report", report);
-    execFileSync("tools/vga-report", ["pictures", folder + "/report", folder], { cwd: TOP });
+    execFileSync("./zaklimot", ["pictures", folder + "/report", folder], { cwd: TOP });
     execFileSync("mv", [folder + "/0001.png", folder + "/out"]);
   });
   assert.deepEqual(dotsOf(await pngOf(PICTURE)), dotsOf(theirs));
@@ -143,7 +143,7 @@ function dotsOf(png) {
   return { chunks, dots: inflateSync(Buffer.concat(data)).toString("hex") };
 }
 
-test("pictures that move are those that vga-report writes", async () => {
+test("pictures that move are those that zaklimot writes", async () => {
   const other = { ...PICTURE, rgb: PICTURE.rgb.map(six => 63 - six) };
   const frames = [];
   for (const [picture, seconds] of [[PICTURE, 0.0142], [other, 1.5]]) {
@@ -151,8 +151,8 @@ test("pictures that move are those that vga-report writes", async () => {
   }
   const source = `
 import io, sys
-sys.path.insert(0, "tools")
-from zaklimot_tools.images.png import Animation, Shape
+sys.path.insert(0, "python")
+from zaklimot.commands.images.png import Animation, Shape
 from zaklimot.format import Picture
 animation = Animation(Shape())
 for seconds in (0.0142, 1.5):

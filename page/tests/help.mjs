@@ -166,8 +166,8 @@ test("a text that a worker reads comes out as one that the page reads", async ()
 
 test("what the tools make of Markdown", () => {
   const made = JSON.parse(execFileSync("python3", ["-c", `import json, sys
-sys.path[:0] = ["tools", "bindings/python/src"]
-from zaklimot_tools.dev.page.sections import blocks
+sys.path[:0] = ["tools", "python"]
+from zaklimot_dev.page.sections import blocks
 print(json.dumps(blocks(sys.stdin.read())))`], { cwd: TOP,
     input: "A *slanted* and **bold** \`<b>\` [link](A.md#b).\n\n- one\n  more\n- two\n\n| a | b |\n|---|---|\n| 1 | \`x\` |\n\n" +
       "    code\n\n\`\`\`\nint\n\nframe\n\`\`\`\n\n*Defined by [x](y).*\n" }));

@@ -3,12 +3,12 @@
 import { mkdtempSync, readFileSync, readdirSync, rmSync } from "node:fs";
 import { tmpdir } from "node:os";
 import { Adapter } from "../run/adapter.js";
-import { TOP, moduleBytes } from "../../tools/zaklimot_tools/trace/parts.mjs";
+import { TOP, moduleBytes } from "../../python/zaklimot/commands/trace/parts.mjs";
 
 export { FONTS, PAGE, TOP, machineParts, moduleBytes, pageData }
-  from "../../tools/zaklimot_tools/trace/parts.mjs";
+  from "../../python/zaklimot/commands/trace/parts.mjs";
 
-/** The style sheets of the page, joined as tools/zaklimot_tools/dev/page/page.py joins them. */
+/** The style sheets of the page, joined as tools/zaklimot_dev/page/page.py joins them. */
 export function pageStyle() {
   const names = readdirSync(`${TOP}page`, { recursive: true }).filter(name => name.endsWith(".css"));
   const others = names.filter(name => name !== "style.css").sort();

@@ -100,11 +100,11 @@ for (const { name, bytes } of programs) {
   });
 }
 
-/** The script that tools/vga-trace makes of a trace with times, as a session that has run. */
+/** The script that zaklimot trace makes of a trace with times, as a session that has run. */
 function convertedTrace(trace) {
   const text = written(folder => {
     writeFileSync(join(folder, "trace"), trace);
-    execFileSync("tools/vga-trace", ["convert", join(folder, "trace"), join(folder, "out"), "--text", "--time"],
+    execFileSync("./zaklimot", ["trace", "convert", join(folder, "trace"), join(folder, "out"), "--text", "--time"],
       { cwd: TOP, stdio: "ignore" });
   }).toString();
   return { session: runWhole(new Session(adapter, FONTS, text)) };
@@ -133,7 +133,7 @@ const TURNS = { name: "turns.com", bytes: code("B81300 CD10 BAC203 B0E3 EE BB140
   "BAC203 B063 EE BB1400 31C9 E2FE 4B 75F9 EBDE") };
 
 for (const { name, bytes } of [...programs, TURNS]) {
-  test(`the last frames of ${name} are a trace, of which vga-trace makes the same pictures`, () => {
+  test(`the last frames of ${name} are a trace, of which zaklimot makes the same pictures`, () => {
     const machine = started({ program: bytes });
     machine.run(HALF);
     const snapshot = machine.snapshot(null);
@@ -146,7 +146,7 @@ for (const { name, bytes } of [...programs, TURNS]) {
     const [[amid, last], [ownAmid, ownLast]] = [session, own].map(lastPictures);
     assert.equal(last.size, ownLast.size);
     assert.equal(differing(last, ownLast), 0);
-    // What changes while the beam draws comes up to a line sooner or later: vga-trace adds up times below 30
+    // What changes while the beam draws comes up to a line sooner or later: zaklimot adds up times below 30
     // microseconds. Bars have a colour of their own on each line.
     assert.equal(amid.size, ownAmid.size);
     const share = differing(amid, ownAmid);

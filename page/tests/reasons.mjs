@@ -20,7 +20,7 @@ const wrongIn = text => mistakeIn(adapter, new TextEncoder().encode(text));
 
 /** What Python prints as JSON, with `data` as JSON on its standard input. */
 function python(source, data = null) {
-  const said = execFileSync("python3", ["-c", `import json, sys\nsys.path.insert(0, "tools")\n${source}`],
+  const said = execFileSync("python3", ["-c", `import json, sys\nsys.path.insert(0, "python")\n${source}`],
     { cwd: TOP, input: JSON.stringify(data), maxBuffer: 1 << 28 });
   return JSON.parse(said);
 }
@@ -75,7 +75,7 @@ test("a name that is near is asked for; where none is, all are listed", () => {
 
 test("the grammar is that of the bindings for Python, which the tools go by", () => {
   const told = python(`
-import zaklimot_tools
+import zaklimot.commands
 from zaklimot.format import BLOCK_LINES, FORMS, MOST_STEPS, READING, REGISTERS, SHOWN
 shapes = {name: form.fields for name, form in FORMS.items() if " " not in name and not form.has_block}
 def numbers(table):
@@ -104,7 +104,7 @@ test("texts at random are wrong as a whole where Python says so, and for its rea
   const texts = Array.from({ length: 5000 }, () => fronts[random(fronts.length)] +
     Array.from({ length: random(8) }, () => letters[random(letters.length)]).join(""));
   const told = python(`
-from zaklimot_tools.explain.faults import _wrong_whole
+from zaklimot.commands.explain.faults import _wrong_whole
 print(json.dumps([_wrong_whole(text.encode("latin-1")) for text in json.load(sys.stdin)]))`, texts);
   const found = texts.map(text => encodingTrouble(Buffer.from(text, "latin1")));
   for (const [i, text] of texts.entries()) assert.equal(found[i], told[i], JSON.stringify(text));

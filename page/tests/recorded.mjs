@@ -1,4 +1,4 @@
-// What tools/vga-trace records of the page's machine is what the page's own window says of the same run.
+// What zaklimot trace records of the page's machine is what the page's own window says of the same run.
 import assert from "node:assert/strict";
 import { execFileSync } from "node:child_process";
 import { mkdtempSync, readFileSync, rmSync, writeFileSync } from "node:fs";
@@ -23,7 +23,7 @@ function recorded(name, bytes, given = {}) {
     writeFileSync(file, bytes);
     writeFileSync(paths[0], JSON.stringify({ file, name, folder, quiet: 3, seconds: SECONDS, speed: USUAL_SPEED,
       deeds: [{ at: null, keys: [], told: "a screen" }], ...given }));
-    const trace = execFileSync("node", [TOP + "tools/zaklimot_tools/trace/inpage.mjs", ...paths],
+    const trace = execFileSync("node", [TOP + "python/zaklimot/commands/trace/inpage.mjs", ...paths],
       { encoding: "utf-8", maxBuffer: 1 << 28, env: { ...process.env, ZAKLIMOT_PAGE: PAGE } });
     return { trace, told: JSON.parse(readFileSync(paths[1], "utf-8")), screen: readFileSync(join(folder, ".dump.0.ppm")) };
   } finally {

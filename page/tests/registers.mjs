@@ -64,10 +64,10 @@ test("miscellaneous output", () => {
     rows.map(([bits, name, effect]) => [bits, name, effect === "stored"]));
 });
 
-test("the names are those of tools/vga-report, which names what differs in a dump", () => {
+test("the names are those of zaklimot, which names what differs in a dump", () => {
   const told = execFileSync("python3", ["-c", `import json, sys
-sys.path.insert(0, "tools")
-from zaklimot_tools.report.expecting import NAMES
+sys.path.insert(0, "python")
+from zaklimot.commands.report.expecting import NAMES
 print(json.dumps(NAMES))`], { cwd: TOP });
   const names = Object.fromEntries(GROUPS.filter(group => !["misc", "dac"].includes(group.id))
     .map(group => [group.id, group.registers.map(register => register.name)]));

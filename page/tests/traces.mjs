@@ -1,4 +1,4 @@
-// Traces that are dropped on the page, against the text that tools/vga-trace makes of them.
+// Traces that are dropped on the page, against the text that zaklimot trace makes of them.
 import assert from "node:assert/strict";
 import test from "node:test";
 import { execFileSync } from "node:child_process";
@@ -16,7 +16,7 @@ function toolText(trace, ...options) {
     writeFileSync(folder + "/trace", trace);
     const files = [folder + "/trace", folder + "/out"];
     const words = ["convert", ...files, "--text", "--no-repeat", ...options];
-    execFileSync("tools/vga-trace", words, { cwd: TOP, stdio: "ignore" });
+    execFileSync("./zaklimot", ["trace", ...words], { cwd: TOP, stdio: "ignore" });
   }).toString();
 }
 
@@ -54,7 +54,7 @@ function randomTrace(seed, count) {
   return lines.join("\n") + "\n";
 }
 
-test("a trace with times is the text that vga-trace makes of it with --time", () => {
+test("a trace with times is the text that zaklimot makes of it with --time", () => {
   assert.equal(traceForm(EXAMPLE), "plain");
   const text = textOfTrace(EXAMPLE);
   assert.equal(text, toolText(EXAMPLE, "--time"));
@@ -62,7 +62,7 @@ test("a trace with times is the text that vga-trace makes of it with --time", ()
   assert.match(text, /\nframe\nframe\n$/);
 });
 
-test("a trace without times is the text that vga-trace makes of it", () => {
+test("a trace without times is the text that zaklimot makes of it", () => {
   const trace = EXAMPLE.replace(/^\d+/gm, "-"), text = textOfTrace(trace);
   assert.equal(text, toolText(trace));
   assert.doesNotMatch(text, /advance|frame\nframe/);
@@ -86,7 +86,7 @@ test("a pause is a frame at most, less than a line waits, and time that runs bac
   assert.deepEqual(pauses([1050, 1, 31]), [line]);
 });
 
-test("traces at random are the texts that vga-trace makes of them", () => {
+test("traces at random are the texts that zaklimot makes of them", () => {
   let advances = 0;
   for (let seed = 1; seed <= 6; seed++) {
     const trace = randomTrace(seed, 600), text = textOfTrace(trace);
@@ -96,7 +96,7 @@ test("traces at random are the texts that vga-trace makes of them", () => {
   assert.ok(advances > 500, `${advances} advances`);
 });
 
-test("calls, dots and frames that were kept are those of vga-trace", () => {
+test("calls, dots and frames that were kept are those of zaklimot", () => {
   const calls = ["int 0003 0 0 0", "int 1301 0007 0003 0000 41624D", "int 13 0 0 0 ; mode 13", "int 0012 1 2 3"];
   const trace = `0+0 ${calls[0]}\n4+122 ${calls[1]}\n9+5 w m B8000 41 1\n9+0 w m B8001 07 1\n` +
     `900+20000 frame\n99999+40000000 r p 3DA 9 1\n99999+0 w p 3C2 63 1\n99999+7 r m A0000 1122334455667788 8\n`;
@@ -124,7 +124,7 @@ function event(kind, address, value, size, region, front = "7@1.000001:") {
     `addr 0x${address} value 0x${value} size ${size} name '${region}'`;
 }
 
-test("a log of qemu is the text that vga-trace makes of it, with its times and without", () => {
+test("a log of qemu is the text that zaklimot makes of it, with its times and without", () => {
   const logOf = front => [event("write", "3c2", "67", 1, "vga", front(0)), "other",
     ...FRAME.map((words, i) => event("write", ...words.toLowerCase().split(" "),
       words.length > 6 ? 2 : 1, "vga", front(i))),

@@ -13,9 +13,9 @@ from itertools import groupby, islice
 from pathlib import Path
 from typing import Iterable, NamedTuple, Sequence
 
-from zaklimot_tools import TOP
-from zaklimot_tools.core.processes import captured, check_program
-from zaklimot_tools.core.trouble import Wrong
+from zaklimot.commands import TOP
+from zaklimot.commands.core.processes import captured, check_program
+from zaklimot.commands.core.trouble import Wrong
 
 
 CRATES = TOP / "crates"

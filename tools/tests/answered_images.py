@@ -5,11 +5,10 @@ from __future__ import annotations
 
 from typing import Iterator
 
-from zaklimot_tools.explain.faults import script_of
-from zaklimot_tools.floppy.image import image_for
+from zaklimot.commands.explain.faults import script_of
+from zaklimot.commands.floppy.image import image_for
 
 from .floppy import ANSWERS, MARK, Machine
-from .test_images import png
 from .tools import ppm
 
 # What a machine can answer, and what it skips: bytes, words, calls with registers and a table.
@@ -24,7 +23,7 @@ frame
 put A0000 5A
 getw AFFFF
 """
-# Scripts for machines, in folders with a list, and pages that were typed.
+# Scripts for machines, in folders with a list.
 TEXTS = {
     "scripts/list.txt": "first.vga\nwith/a.bin.vga\n",
     "scripts/first.vga": ASKED_OF_MACHINES,
@@ -32,7 +31,6 @@ TEXTS = {
     "lacking/list.txt": "first.vga until 3\nsecond.vga\n",
     "lacking/first.vga": "out 3C2 03\nin 3CC ; = 03\nput A0000 1 ; the memory is enabled\n"
     "frame ; = picture 9x1\n",
-    "no digits.txt": "babab babab jijok kinomid famid famug babab babab sasaz kinok litul murok\n",
 }
 
 
@@ -57,26 +55,6 @@ def image_files() -> Iterator[tuple[str, bytes]]:
     yield "two words.ppm", ppm(9, 1, bytes(27))
 
 
-def png_files() -> Iterator[tuple[str, bytes]]:
-    """PNGs of each colour type, with what is transparent in them; and damaged ones."""
-    yield "grey.png", png(12, 2, b"\0\x5a\xf0\0\xa5\x00", 1, 0)
-    yield "key.png", png(4, 2, b"\0\x1b\0\xe4", 2, 0, clear=b"\0\2")
-    entries = bytes((255, 0, 0, 0, 255, 0, 0, 0, 255, 9, 99, 199))
-    yield "entries.png", png(4, 2, b"\0\x01\x23\0\x32\x10", 4, 3, entries, clear=b"\0\x80")
-    deep = bytes(range(0, 240, 5))
-    lines = b"".join(bytes([kind]) + deep[kind : kind + 24] for kind in range(5))
-    yield "deep.png", png(4, 5, lines, 16, 2, clear=deep[:6])
-    yield "clear.png", png(3, 2, b"\1" + deep[:12] + b"\4" + deep[9:21], 8, 6)
-    yield "faint.png", png(4, 2, b"\2" + deep[:8] + b"\3" + deep[9:17], 8, 4)
-    whole = png(2, 1, b"\0" + deep[:6])
-    yield "cut.png", whole[:-20]
-    yield "off.png", whole.replace(b"IDAT", b"IDAU")
-    yield "filter.png", png(2, 1, b"\5" + deep[:6])
-    yield "entry.png", png(2, 1, b"\0\0\4", 8, 3, entries)
-    yield "interlaced.png", png(2, 1, b"\0" + deep[:6], interlace=1)
-    yield "depth.png", png(2, 1, b"\0" + deep[:6], 3, 2)
-
-
 def floppy_files() -> Iterator[tuple[str, bytes]]:
     """What a machine leaves that has run one script, and what one has that has run two; images up
     to the last answer."""
@@ -90,10 +68,6 @@ def floppy_files() -> Iterator[tuple[str, bytes]]:
         record = b"".join(machine.record)
         yield f"{name}.record", b"noise\n" + record
         yield f"{name}-cut.record", record[: record.rindex(b"\r\nA") + 20]
-        pages = [page.encode() + b"\n" for page in machine.pages]
-        yield f"{name}.pages", b"".join(pages)
-        for number, page in enumerate(pages):
-            yield f"{name} pages/{number}.txt", page
         if name == "ran":
             yield "new.img", image[:end]
             yield "cut.img", machine.image[: end - 1]
@@ -101,5 +75,3 @@ def floppy_files() -> Iterator[tuple[str, bytes]]:
             yield "short.img", machine.image[:MARK]
             yield "sum.record", record.replace(b"A 000000 AD", b"A 000000 AE")
             yield "twice.record", record[:-30] + b"\n" + record
-            row = pages[1].splitlines(True)[1]
-            yield "mistyped.txt", pages[0] + row.upper() + row.replace(b"b", b"d", 1)

@@ -1,4 +1,4 @@
-"""Scripts, reports and cases of the suite over which `vga-report` answers command lines."""
+"""Scripts, reports and cases of the suite over which `zaklimot suite` answers command lines."""
 
 from __future__ import annotations
 

@@ -7,7 +7,9 @@ import json
 from pathlib import Path
 from typing import Any, Iterator
 
-from zaklimot_tools.trace.recording import PHASES
+from zaklimot.commands.trace.recording import PHASES
+
+from zaklimot.format import Report
 
 from .tools import EXAMPLES, ended, ppm, run_tool
 from .tracing import qemu
@@ -185,24 +187,14 @@ def element_files(elements: bytes) -> Iterator[tuple[str, bytes]]:
 
 
 def made_files(folder: Path, program: str | Path, fonts: str | Path) -> Iterator[tuple[str, bytes]]:
-    """Reports of scripts of the traces and elements that are in a folder, and a recording that was
-    kept."""
+    """Reports of scripts of the traces that are in a folder."""
     for name, ending in (("dots", "trace"), ("refused", "trace"), ("typed", "log")):
         options = ["--time"] if name == "dots" else []
         given = folder / f"{name}.{ending}"
-        run_tool("vga-trace", "convert", given, folder / f"{name}.bin", *options)
+        run_tool("zaklimot", "trace", "convert", given, folder / f"{name}.bin", *options)
         words = (program, "run", folder / f"{name}.bin", "--fonts", fonts)
         (folder / "report").write_bytes(ended(*words, text=False)[1])
         # Without its pictures it is small.
-        yield f"{name}.report", run_tool("vga-report", "text", folder / "report")[1]
-    run_tool("vga-trace", "keep", folder / "recorded", folder / "kept.zip")
-    yield "kept.zip", (folder / "kept.zip").read_bytes()
-    run_tool("vga-steps", "scripts", folder / "machine", folder / "dac.json")
-    for at, script in enumerate(sorted((folder / "machine" / "dac").glob("*.vga"))):
-        words = (program, "go", script, "--fonts", fonts)
-        report = ended(*words, text=False)[1]
-        name = f"dac/{script.stem}.report"
-        yield f"reports/{name}", report
-        yield f"wrong-reports/{name}", report.replace(b" 3F", b" 3E") if at == 1 else report
-        if at < 3:
-            yield f"few-reports/{name}", report[: -8 if at == 2 else None]
+        with open(folder / "report", "rb") as report:
+            text = "".join(answer.text() for answer in Report(report).answers())
+        yield f"{name}.report", text.encode("ascii")

@@ -26,9 +26,9 @@ from functools import lru_cache
 from pathlib import Path
 from typing import Callable, Iterable, Iterator, Mapping, Union
 
-from zaklimot_tools.dev.emulators.table_page import FIRST_MARK, LAST_MARK
-from zaklimot_tools.script.program import found_program
-from zaklimot_tools.script.words import FONTS
+from zaklimot_dev.emulators.table_page import FIRST_MARK, LAST_MARK
+from zaklimot.commands.script.program import found_program
+from zaklimot.commands.script.words import FONTS
 
 from . import answered_images, answered_scripts, answered_traces
 from .stepping import compile_library
@@ -142,7 +142,7 @@ def _lay(folder: Path, files: Files) -> None:
 
 def _answered(folder: Path, program: str | Path) -> Iterator[tuple[str, bytes]]:
     """Scripts as bytes, and their reports, of those in a folder."""
-    run_tool("vga-trace", "convert", folder / "t.trace", folder / "t.vga", "--text")
+    run_tool("zaklimot", "trace", "convert", folder / "t.trace", folder / "t.vga", "--text")
     for name in ("s", "good", "repeated", "t"):
         script = folder / f"{name}.bin"
         ended(program, "asm", folder / f"{name}.vga", script)
@@ -191,21 +191,21 @@ def _all_files() -> dict[str, bytes]:
 
 
 # Commands that read lists of cases.
-OF_CASES = ("vga-report suite ", "vga-report scripts ", "vga-report expected ")
+OF_CASES = ("zaklimot suite ",)
 # More files, for the commands of some tools.
-OWN = {"vga-picture": answered_images.png_files, "vga-floppy": answered_images.floppy_files}
+OWN = {"floppy": answered_images.floppy_files}
 
 
 @lru_cache(None)
-def given_files(tool: str) -> dict[str, bytes]:
-    """The files that the commands of a tool find, by their names."""
-    return {**_all_files(), **dict(OWN[tool]() if tool in OWN else ())}
+def given_files(command: str) -> dict[str, bytes]:
+    """The files that a command finds, by their names."""
+    return {**_all_files(), **dict(OWN[command]() if command in OWN else ())}
 
 
 def _named_files(line: str) -> Iterator[tuple[str, bytes]]:
     """The files that a command line may name, or whose folders. A list of cases names others."""
     wants_all = line.startswith(OF_CASES)
-    for name, data in given_files(line.partition(" ")[0]).items():
+    for name, data in given_files(line.split(" ")[1] if " " in line else "").items():
         if wants_all or name.partition("/")[0] in line:
             yield name, data
 

@@ -10,8 +10,8 @@ from __future__ import annotations
 import json
 from pathlib import Path
 
-from zaklimot_tools.steps.reading import read_elements
-from zaklimot_tools.steps.rules import RULES, branches_shown
+from zaklimot.commands.steps.reading import read_elements
+from zaklimot.commands.steps.rules import RULES, branches_shown
 
 from .stepping import STEPS_EXAMPLES
 

@@ -1,4 +1,4 @@
-"""The digests of what seeds make: of the elements of each kind by `vga-steps make`, with how often
+"""The digests of what seeds make: of the elements of each kind by `steps make`, with how often
 they show each branch of each rule; and of the inputs of `vga-fuzz`.
 
     cd tools && python3 -m tests.digests
@@ -17,7 +17,8 @@ from random import Random
 from typing import Union
 
 from zaklimot.format import encode, parse_text
-from zaklimot_tools.dev.fuzz.making import make
+from zaklimot_dev.fuzz.making import make
+from zaklimot_dev.release.coverage import counted_file
 
 from .stepping import compile_library, steps, told
 
@@ -42,10 +43,17 @@ def elements() -> tuple[dict[str, str], dict[str, str]]:
         status, output, said = steps("make", folder, *words)
         assert (status, said) == (0, ""), said
         files = {Path(name).name.partition(".")[0]: Path(name) for name in output.split()}
-        counted = json.loads(steps("coverage", *files.values(), "--json", "--jobs", 4)[1])
         digests = {name: _digest(told(path)) for name, path in files.items()}
-        shown = zip(files, counted["files"])
-        return digests, {name: _digest(json.dumps(one["branches"])) for name, one in shown}
+        return digests, {name: _digest(json.dumps(_counts(path))) for name, path in files.items()}
+
+
+def _counts(path: Path) -> dict[str, dict[str, int]]:
+    """How many elements of a file show each branch, by the names of rule and branch, those first
+    that are shown first."""
+    found: dict[str, dict[str, int]] = {}
+    for (rule, branch), count in counted_file(path).branches.items():
+        found.setdefault(rule, {})[branch] = count
+    return found
 
 
 def _digest(data: Union[bytes, str]) -> str:

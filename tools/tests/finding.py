@@ -4,10 +4,10 @@ once."""
 import sys
 from pathlib import Path
 
-sys.path.insert(0, str(Path(__file__).resolve().parents[1]))
+sys.path.insert(0, str(Path(__file__).resolve().parents[2] / "python"))
 
-from zaklimot_tools.core import cli  # noqa: E402
-from zaklimot_tools.script.portable import portable_program  # noqa: E402
+from zaklimot.commands.core import cli  # noqa: E402
+from zaklimot.commands.script.portable import portable_program  # noqa: E402
 
 
 def _find() -> int:

@@ -1,4 +1,4 @@
-"""A machine for tests: boots an image of vga-floppy as boot.asm does, on an adapter that only
+"""A machine for tests: boots an image of `floppy make` as boot.asm does, on an adapter that only
 remembers."""
 
 from __future__ import annotations
@@ -6,9 +6,9 @@ from __future__ import annotations
 import struct
 from typing import Iterator, Optional
 
-from zaklimot_tools.explain.faults import script_of
-from zaklimot_tools.floppy.image import image_for
-from zaklimot_tools.floppy.table import (
+from zaklimot.commands.explain.faults import script_of
+from zaklimot.commands.floppy.image import image_for
+from zaklimot.commands.floppy.table import (
     BEHIND,
     END,
     END_OF_RESET,

@@ -9,7 +9,7 @@ from pathlib import Path
 from .tools import BLACK, RED, Folder, ppm, run_tool
 
 
-run = partial(run_tool, "vga-report")
+run = partial(run_tool, "zaklimot")
 # A program that understands texts of a few steps: `asm` copies, `dis` prints in upper case, `go`
 # answers by the name.
 FAKE = """import sys

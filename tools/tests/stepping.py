@@ -12,12 +12,12 @@ import unittest
 from pathlib import Path
 from typing import Any, Iterator
 
-from zaklimot_tools.steps.adapter import SteppedCard
-from zaklimot_tools.steps.kinds import KINDS
-from zaklimot_tools.steps.library import load
-from zaklimot_tools.steps.making import elements
-from zaklimot_tools.steps.parts import Element
-from zaklimot_tools.script.words import FONTS
+from zaklimot.commands.steps.adapter import SteppedCard
+from zaklimot.commands.steps.kinds import KINDS
+from zaklimot.commands.steps.library import load
+from zaklimot.commands.steps.making import elements
+from zaklimot.commands.steps.parts import Element
+from zaklimot.commands.script.words import FONTS
 
 from .tools import EXAMPLES, Folder, run_tool, takes_long
 
@@ -36,7 +36,7 @@ GOOD: Element = {
 
 def steps(*words: Any) -> tuple[int, str, str]:
     """Status, output and messages of the tool."""
-    status, output, said = run_tool("vga-steps", *map(str, words))
+    status, output, said = run_tool("zaklimot", "steps", *map(str, words))
     return status, output.decode(), said
 
 

@@ -1,6 +1,6 @@
-"""An adapter for `vga-steps check`: the portable C file, as it is or with one of some faults.
+"""An adapter for `zaklimot steps check`: the portable C file, as it is or with one of some faults.
 
-    tools/vga-steps check 'python3 tools/tests/steps_adapter.py [FAULT]' FILE..
+    ./zaklimot steps check 'python3 tools/tests/steps_adapter.py [FAULT]' FILE..
 
 A fault changes the state before or after a step: the adapter saves its state, changes bytes of it
 as docs/STATE.md lays them out, and restores it.
@@ -13,13 +13,13 @@ import sys
 from pathlib import Path
 from typing import Callable, NamedTuple, Optional
 
-sys.path.insert(0, str(Path(__file__).resolve().parents[1]))
+sys.path.insert(0, str(Path(__file__).resolve().parents[2] / "python"))
 
-from zaklimot_tools.script.words import FONTS  # noqa: E402
-from zaklimot_tools.steps.adapter import SteppedCard  # noqa: E402
-from zaklimot_tools.steps.library import load  # noqa: E402
-from zaklimot_tools.steps.making import told_of  # noqa: E402
-from zaklimot_tools.steps.parts import (  # noqa: E402
+from zaklimot.commands.script.words import FONTS  # noqa: E402
+from zaklimot.commands.steps.adapter import SteppedCard  # noqa: E402
+from zaklimot.commands.steps.library import load  # noqa: E402
+from zaklimot.commands.steps.making import told_of  # noqa: E402
+from zaklimot.commands.steps.parts import (  # noqa: E402
     FINAL,
     INITIAL,
     LINE,
@@ -28,8 +28,8 @@ from zaklimot_tools.steps.parts import (  # noqa: E402
     Element,
     Parts,
 )
-from zaklimot_tools.steps.reaching import steps_to  # noqa: E402
-from zaklimot_tools.steps.reading import step_of  # noqa: E402
+from zaklimot.commands.steps.reaching import steps_to  # noqa: E402
+from zaklimot.commands.steps.reading import step_of  # noqa: E402
 
 # Where parts of a saved state begin: docs/STATE.md.
 CRTC = 41

@@ -67,49 +67,47 @@ class Answers(unittest.TestCase):
         self.assertEqual((set(lines), len(set(lines))), (set(self.RECORDED), len(lines)))
 
     def test_runs(self) -> None:
-        self.hold_to_record("vga-report run ", 0, 2)
+        self.hold_to_record("zaklimot run ", 0, 2)
 
     def test_other_runs(self) -> None:
-        self.hold_to_record("vga-report run ", 1, 2)
+        self.hold_to_record("zaklimot run ", 1, 2)
 
-    def test_reports(self) -> None:
-        for command in ("text", "pictures", "compare-picture"):
-            self.hold_to_record(f"vga-report {command} ")
+    def test_reports_and_recordings(self) -> None:
+        for command in ("pictures", "compare", "page"):
+            self.hold_to_record(f"zaklimot {command} ")
 
-    def test_reports_that_are_compared(self) -> None:
-        self.hold_to_record("vga-report compare ")
+    def test_what_is_no_command(self) -> None:
+        for line in answers.lines("zaklimot"):
+            if len(line.split()) < 2 or line.split()[1] == "nothing":
+                with self.subTest(line):
+                    self.assertEqual(answers.answer(line), self.RECORDED[line])
 
     def test_the_suite(self) -> None:
-        for command in ("suite", "scripts", "expected"):
-            self.hold_to_record(f"vga-report {command} ")
-
-    def test_images(self) -> None:
-        self.hold_to_record("vga-picture ")
+        self.hold_to_record("zaklimot suite ")
 
     def test_traces(self) -> None:
-        self.hold_to_record("vga-trace ")
+        self.hold_to_record("zaklimot trace ")
 
     def test_floppies(self) -> None:
-        self.hold_to_record("vga-floppy ")
+        self.hold_to_record("zaklimot floppy ")
 
     def test_steps(self) -> None:
-        self.hold_to_record("vga-steps ")
+        self.hold_to_record("zaklimot steps ")
 
     def test_scripts_whose_lines_end_with_carriage_returns(self) -> None:
-        for command in ("run", "scripts", "expected"):
-            self.hold_without_carriage_returns(f"vga-report {command} ")
-        self.hold_without_carriage_returns("vga-floppy ")
+        for command in ("run", "suite --scripts", "floppy"):
+            self.hold_without_carriage_returns(f"zaklimot {command} ")
 
     def test_traces_whose_lines_end_with_carriage_returns(self) -> None:
-        for command in ("convert", "check", "text", "kinds", "find", "compare"):
-            self.hold_without_carriage_returns(f"vga-trace {command} ")
+        for command in ("convert", "check", "text"):
+            self.hold_without_carriage_returns(f"zaklimot trace {command} ")
 
     def test_traces_and_elements_that_are_packed(self) -> None:
-        self.hold_to_record("vga-trace ", change=_packed)
-        self.hold_to_record("vga-steps ", change=_packed)
+        for command in ("trace", "steps"):
+            self.hold_to_record(f"zaklimot {command} ", change=_packed)
 
     def test_images_with_packages(self) -> None:
-        for tool in ("vga-picture ", "vga-report compare-picture", "vga-report pictures"):
+        for tool in ("zaklimot compare", "zaklimot pictures"):
             for line in answers.lines(tool):
                 wanted = self.RECORDED[line]
                 # Where Pillow is missed, it reads the image, or says why it can't.

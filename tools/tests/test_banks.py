@@ -6,8 +6,8 @@ import unittest
 from typing import Iterator
 
 from zaklimot.format import Step, parse_line
-from zaklimot_tools.explain.banks import Bank, Banks
-from zaklimot_tools.explain.clocks import Registers
+from zaklimot.commands.explain.banks import Bank, Banks
+from zaklimot.commands.explain.clocks import Registers
 
 from .tools import run_texts
 

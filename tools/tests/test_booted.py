@@ -10,9 +10,9 @@ from contextlib import contextmanager
 from functools import partial
 from typing import Callable, Iterator
 
-from zaklimot_tools.core.processes import end_with_parent, started
-from zaklimot_tools.floppy.image import read_record
-from zaklimot_tools.floppy.running import (
+from zaklimot.commands.core.processes import end_with_parent, started
+from zaklimot.commands.floppy.image import read_record
+from zaklimot.commands.floppy.running import (
     IMAGE,
     MACHINES,
     QMP_SOCKET,
@@ -20,12 +20,12 @@ from zaklimot_tools.floppy.running import (
     ROMS,
     environment,
 )
-from zaklimot_tools.trace.monitor import Monitor, monitor_at
+from zaklimot.commands.trace.monitor import Monitor, monitor_at
 
 from .floppy import KEYS, pages_of
 from .tools import Folder, run_tool
 
-run = partial(run_tool, "vga-floppy")
+run = partial(run_tool, "zaklimot", "floppy")
 QEMU = MACHINES["qemu"]
 # Cases whose answers take two pages and a part of a third, which ends within a word.
 CASES = ("--only", "host/", "--only", "modes/")
@@ -52,7 +52,9 @@ class PagesOfADiskThatIsProtected(Folder):
     def setUp(self) -> None:
         super().setUp()
         scripts = str(self.folder / "scripts")
-        self.assertEqual(run_tool("vga-report", "scripts", scripts, "--machine", *CASES)[0], 0)
+        self.assertEqual(
+            run_tool("zaklimot", "suite", "--scripts", scripts, "--machine", *CASES)[0], 0
+        )
         self.assertEqual(run("make", scripts, self.folder / IMAGE), (0, b"", ""))
         self.image = (self.folder / IMAGE).read_bytes()
 
@@ -118,17 +120,3 @@ class PagesOfADiskThatIsProtected(Folder):
         self.assertEqual(len(pages), 4)
         self.assertEqual(seen, [END, *pages, pages[0], *pages[:-3:-1]])
         self.assertEqual((self.folder / IMAGE).read_bytes(), self.image)
-        for number, page in enumerate(seen[1:5]):
-            self.write(f"pages/{number}.txt", "\n".join(page))
-        pages_folder, record = str(self.folder / "pages"), str(self.folder / RECORD)
-        by_pages = self.reports("by-pages", "--pages", pages_folder, str(self.folder / IMAGE))
-        self.assertEqual(by_pages, self.reports("by-serial", "--serial", record))
-        self.assertGreater(len(by_pages), 100)
-
-    def reports(self, name: str, *words: str) -> dict[str, bytes]:
-        """What is read into a folder of this name: the reports of cases."""
-        folder = self.folder / name
-        self.assertEqual(run("read", *words, folder), (0, b"", ""))
-        return {
-            str(path.relative_to(folder)): path.read_bytes() for path in folder.rglob("*.report")
-        }

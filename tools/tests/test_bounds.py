@@ -17,30 +17,26 @@ from typing import Callable, Optional
 from unittest import mock
 
 from zaklimot.format import MOST_BYTES, Picture, count_in, decimal, parse_text, steps_in
-from zaklimot_tools.core.files import files_of_run
-from zaklimot_tools.core.streams import bytes_of, read_at_most
-from zaklimot_tools.core.trouble import Trouble
-from zaklimot_tools.core.words import number_to, seconds
-from zaklimot_tools.explain.faults import read_script
-from zaklimot_tools.explain.mistakes import mistake_in
-from zaklimot_tools.floppy import image
-from zaklimot_tools.floppy.table import HEADER, NAME, VERSION, Table, table_for
-from zaklimot_tools.images import holding, others, reading
-from zaklimot_tools.images.png import ImageSize
-from zaklimot_tools.images.reading import image_of, size_of
-from zaklimot_tools.images.words import Within
-from zaklimot_tools.picture.asked import Fit
-from zaklimot_tools.picture.fitting import check_size
-from zaklimot_tools.picture.mode import MODES
-from zaklimot_tools.report import cases
-from zaklimot_tools.report.cases import MOST_LISTED, read_cases
-from zaklimot_tools.report.report import Expected, Report
+from zaklimot.commands.core.files import files_of_run
+from zaklimot.commands.core.streams import bytes_of, read_at_most
+from zaklimot.commands.core.trouble import Trouble
+from zaklimot.commands.core.words import number_to, seconds
+from zaklimot.commands.explain.faults import read_script
+from zaklimot.commands.explain.mistakes import mistake_in
+from zaklimot.commands.floppy import image
+from zaklimot.commands.floppy.table import HEADER, NAME, VERSION, Table, table_for
+from zaklimot.commands.images import holding, others, reading
+from zaklimot.commands.images.reading import image_of, size_of
+from zaklimot.commands.images.words import Within
+from zaklimot.commands.report import cases
+from zaklimot.commands.report.cases import MOST_LISTED, read_cases
+from zaklimot.commands.report.report import Expected, Report
 
 from .running import Fake
 from .test_images import png
 from .tools import (
+    MODULES,
     PYTHON,
-    TOOLS,
     Folder,
     ended,
     hold,
@@ -57,7 +53,7 @@ from .tools import (
 MANY = "9" * 5000
 # So much memory may a tool take that is given what would fill any.
 ROOM = 1 << 29
-FORGED = "its table of steps is none that vga-floppy makes"
+FORGED = "its table of steps is none that `zaklimot floppy` makes"
 
 
 def limit_memory() -> None:
@@ -136,7 +132,7 @@ class Numbers(unittest.TestCase):
             ("--jobs", r"'9{40}\.\.' is no number from 1 to 256\n$"),
             ("--timeout", r"'9{40}\.\.' is no number of seconds above 0, to 86400\n$"),
         ):
-            status, output, said = run_tool("vga-report", "suite", "x", option, MANY)
+            status, output, said = run_tool("zaklimot", "suite", "x", option, MANY)
             self.assertEqual((status, output), (2, b""))
             self.assertRegex(said, f"error: argument {option}: {told}")
 
@@ -196,7 +192,7 @@ class Runs(Fake):
         self.begin_program("if sys.argv[1] == 'go': sys.exit('vga: F7 BadLine(2)')\n")
         for count in (MANY, "²"):
             done = self.run_text(f"version 2\nrepeat {count}\nget 0\nend\n")
-            hold_undone(self, done, r"^vga-report: t\.vga:2: F7 BadLine\(2\): ")
+            hold_undone(self, done, r"^zaklimot: t\.vga:2: F7 BadLine\(2\): ")
 
 
 class Cases(Folder):
@@ -233,7 +229,7 @@ class Cases(Folder):
         self.write("a.txt", "1 ok\n")
         path = self.listed("bytes a\n")
         words = ("suite", "true {script}", "--bytes", "true {script}", "--list", path)
-        done = run_tool("vga-report", *words, prepare=limit_memory)
+        done = run_tool("zaklimot", *words, prepare=limit_memory)
         hold_undone(self, done, "it lists more than")
 
     def test_expected_reports(self) -> None:
@@ -270,16 +266,11 @@ class Images(Folder):
         unpacked = mock.patch.object(reading, "_unfiltered", side_effect=AssertionError)
         with unpacked:
             self.assertEqual(size_of(Path(large).read_bytes(), "it"), (3, 1))
-            told = refused(check_size, ImageSize(3, 1), MODES["13"], Fit.EXACT, "it")
-            self.assertRegex(told, "the image has 3x1 dots, and mode 13 has 320x200")
         status, output, said = run_tool(
-            "vga-report", "compare-picture", report, "1", large, prepare=unpacked.start
+            "zaklimot", "compare", report, large, "--step", "1", prepare=unpacked.start
         )
         self.assertEqual((status, said), (1, ""))
         self.assertIn(b"they have 2x1 and 3x1 dots, and neither is the other", output)
-        words = ("script", large, self.folder / "o", "--mode", "13")
-        done = run_tool("vga-picture", *words, prepare=unpacked.start)
-        hold_undone(self, done, "large.png: the image has 3x1 dots, and mode 13 has 320x200")
 
     def test_the_heads_of_files(self) -> None:
         self.assertEqual(size_of(b"P6 # a\n7 5 255\n", "it"), (7, 5))
@@ -314,11 +305,11 @@ class Images(Folder):
     def test_the_words_of_a_tolerance(self) -> None:
         report = self.report("r", ppm(1, 1, b"\x3f\x3f\x3e"))
         path = self.write("i.ppm", b"P6\n1 1\n255\n" + bytes([0xFF, 0xFF, 0xFF]))
-        words = ("compare-picture", report, "1", path)
+        words = ("compare", report, path, "--step", "1")
         for given, status in (((), 1), (("--within", "5-6-5"), 0), (("--within", "1"), 0)):
-            self.assertEqual(run_tool("vga-report", *words, *given)[0], status, given)
+            self.assertEqual(run_tool("zaklimot", *words, *given)[0], status, given)
         for word in ("64", "-1", "5-5-5", "x"):
-            done = run_tool("vga-report", *words, f"--within={word}")
+            done = run_tool("zaklimot", *words, f"--within={word}")
             hold_undone(self, done, f"'{word}' is no number from 0 to 63, and not 5-6-5")
 
 
@@ -371,7 +362,9 @@ class Floppies(unittest.TestCase):
 
 class Names(unittest.TestCase):
     def test_one_that_is_no_text(self) -> None:
-        work = "from zaklimot_tools.core import cli\ncli.run('it', lambda: print('\\udcff') or 0)"
-        environment = {**os.environ, "PYTHONPATH": str(TOOLS)}
+        work = (
+            "from zaklimot.commands.core import cli\ncli.run('it', lambda: print('\\udcff') or 0)"
+        )
+        environment = {**os.environ, "PYTHONPATH": MODULES}
         done = ended(*PYTHON, "-c", work, env=environment, text=False)
         self.assertEqual(done, (0, b"\xff\n", b""))

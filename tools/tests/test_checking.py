@@ -14,16 +14,16 @@ from types import SimpleNamespace as Namespace
 from typing import Any, Callable, Optional, Sequence
 from unittest import mock
 
-from zaklimot_tools.core.processes import Done
-from zaklimot_tools.core.trouble import Wrong
-from zaklimot_tools.dev.emulators import traces
-from zaklimot_tools.dev.library_tests import bindings, command as library
-from zaklimot_tools.dev.library_tests.compilers import Built
-from zaklimot_tools.dev.machine_tests import command as machine
-from zaklimot_tools.dev.machine_tests.command import CaseCounts
-from zaklimot_tools.dev.machine_tests.manual import cases as manual_cases
-from zaklimot_tools.dev.page_tests import command as page
-from zaklimot_tools.trace.parts import TRACE
+from zaklimot.commands.core.processes import Done
+from zaklimot.commands.core.trouble import Wrong
+from zaklimot_dev.emulators import traces
+from zaklimot_dev.library_tests import bindings, command as library
+from zaklimot_dev.library_tests.compilers import Built
+from zaklimot_dev.machine_tests import command as machine
+from zaklimot_dev.machine_tests.command import CaseCounts
+from zaklimot_dev.machine_tests.manual import cases as manual_cases
+from zaklimot_dev.page_tests import command as page
+from zaklimot.commands.trace.parts import TRACE
 
 from .tools import Folder, call, hold, hold_refused, hold_undone, main_of, patched, refused
 

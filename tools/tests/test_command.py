@@ -13,6 +13,7 @@ from functools import partial
 from pathlib import Path
 
 from .tools import (
+    TOP,
     BLACK,
     RED,
     TOOLS,
@@ -30,7 +31,7 @@ from .tools import (
 )
 
 
-PROGRAM = TOOLS / "vga-report"
+PROGRAM = TOP / "zaklimot"
 ADAPTER = shlex.join([sys.executable, str(TOOLS / "tests" / "adapter.py")]) + " {script}"
 PICTURE = ppm(9, 1, RED * 4 + BLACK * 5)
 run = partial(run_tool, PROGRAM.name)
@@ -65,11 +66,11 @@ class Reports(Folder):
         """Width, height and rows of a PNG."""
         return png_rows((self.folder / name).read_bytes())
 
-    def test_as_text(self) -> None:
+    def test_a_report_that_was_kept_as_text(self) -> None:
         # The frame at power-on; the sum is that of `md5sum` over its 37 bytes.
         text = b"1 ok\n2 picture 37 9x1 8f4a7758d19428aa7b8da8bb8fc0c974\n"
         red = hashlib.md5(PICTURE).hexdigest()
-        front = "vga-report: standard input:2: "
+        front = "zaklimot: standard input:2: "
         lacking = f"{front}the picture is shown by its digest, and its dots are not in the file\n"
         differs = (
             f"step 2 differs\n  standard input:2: {text[7:-1].decode()}\n  red:2: picture 37 9x1"
@@ -79,10 +80,7 @@ class Reports(Folder):
             self,
             self.done,
             (
-                ("text black", (0, text, "")),
-                ("text -", report(*self.REPORTS["black"]), (0, text, "")),
                 # A text is as good as its report, but for the dots.
-                ("text -", text, (0, text, "")),
                 (
                     "compare - black",
                     text,
@@ -90,22 +88,21 @@ class Reports(Folder):
                 ),
                 ("compare - red", text, (1, differs, "")),
                 ("pictures - p", text, (2, b"", lacking)),
-                # A damaged report is shown up to the damage.
                 (
-                    "text -",
+                    "compare - black",
                     b"1 ok\n3 ok\n",
-                    (2, b"1 ok\n", f"{front}step 2 is to come, and not '3 ok'\n"),
+                    (2, b"", f"{front}step 2 is to come, and not '3 ok'\n"),
                 ),
             ),
         )
 
     def test_pictures(self) -> None:
         cut = (
-            "vga-report: standard input:2: the picture of step 2 is cut off: of 37 bytes there are"
+            "zaklimot: standard input:2: the picture of step 2 is cut off: of 37 bytes there are"
             " 35\n"
         )
         large = (
-            "vga-report: a picture of {} dots would get {}, and 100,000,000 dots are the most\n"
+            "zaklimot: a picture of {} dots would get {}, and 100,000,000 dots are the most\n"
         ).format
         hold(
             self,
@@ -137,7 +134,7 @@ class Reports(Folder):
         first = b"step 2 differs\n  read:2: E1 (read)\n  refused:2: E1 NotDecoded (refused)\n"
         both = first + b"step 3 differs\n  read:3: 00\n  refused:3: 01\n"
         agree = b"red and standard input agree: "
-        none = "vga-report: no pictures differ, so m.png isn't written\n"
+        none = "zaklimot: no pictures differ, so m.png isn't written\n"
         hold(
             self,
             self.done,
@@ -199,29 +196,29 @@ class Streams(Folder):
         run = partial(ended, sys.executable, PROGRAM, text=False)
         self.assertEqual(run("pictures", path, folder), (0, folder + b"/0001.png\n", b""))
         os.rename(path, folder + b"/r")
-        self.assertEqual(run("text", folder + b"/r", folder)[0], 2)
+        self.assertEqual(run("pictures", folder + b"/r", folder + b"/r")[0], 2)
         status, output, said = run("compare", folder + b"/r", folder + b"/r")
         self.assertEqual((status, said), (0, b""))
         self.assertIn(folder + b"/r agree", output.replace(b"\n", b" "))
         hold_undone(
             self,
-            run("text", folder + b"/none"),
+            run("pictures", folder + b"/none", "-"),
             rb"\\udcff\\udcfe /none: No such file or directory\n",
         )
 
     def test_each_is_told_or_not_wanted(self) -> None:
         path, long = self.report("r", "ok"), self.report("long", *("ok" for _ in range(50000)))
-        told = "vga-report: standard {}put: {}\n".format
+        told = "zaklimot: standard {}put: {}\n".format
         shell = partial(ended, "sh", "-c")
         hold(
             self,
             lambda word, streams: shell(
-                f'"$@" {streams}', "sh", sys.executable, PROGRAM, "text", word
+                f'"$@" {streams}', "sh", sys.executable, PROGRAM, "compare", word, path
             ),
             (
                 (path, ">&-", (2, "", told("out", "it is closed"))),
                 ("-", "<&-", (2, "", told("in", "it is closed"))),
-                (path, "<&-", (0, "1 ok\n", "")),
+                (path, "<&-", (0, f"{path} and {path} agree: 1 step, 0 pictures\n", "")),
                 # Nothing is said on standard output in the place of a closed error.
                 (self.folder / "none", "2>&-", (2, "", "")),
                 (long, ">/dev/full", (2, "", told("out", "No space left on device"))),
@@ -233,7 +230,7 @@ class Streams(Folder):
                 (
                     "-",
                     f"<{path} >>{path}",
-                    (2, "", told("out", "it is read as standard input, so it isn't written")),
+                    (2, "", told("out", f"it is read as {path}, so it isn't written")),
                 ),
             ),
         )
@@ -634,11 +631,11 @@ class Suite(Folder):
                     self.write(name, text)
                 folder = self.folder / str(number)
                 status, output, said = run(
-                    "scripts", folder, "--list", self.folder / "list", *words.split()
+                    "suite", "--scripts", folder, "--list", self.folder / "list", *words.split()
                 )
                 if isinstance(wanted, str):
                     self.assertEqual(
-                        (status, said), (2, f"vga-report: {wanted.format(folder=self.folder)}\n")
+                        (status, said), (2, f"zaklimot: {wanted.format(folder=self.folder)}\n")
                     )
                     continue
                 paths = [path for path in folder.rglob("*") if path.is_file()]
@@ -670,29 +667,29 @@ class Suite(Folder):
 
     def test_commands_that_can_not_be_meant(self) -> None:
         self.case("a/one", "frame\n", "1 ragged\n")
-        empty = (2, "", "vga-report: the command is empty\n")
+        empty = (2, "", "zaklimot: the command is empty\n")
         hold(
             self,
             lambda command: self.run_suite(command=command),
             [
                 (
                     "true",
-                    (2, "", "vga-report: the command 'true' has neither {script} nor {name}\n"),
+                    (2, "", "zaklimot: the command 'true' has neither {script} nor {name}\n"),
                 ),
                 ("", empty),
                 (" ", empty),
                 (
                     "'{script}",
-                    (2, "", "vga-report: the command ''{script}': No closing quotation\n"),
+                    (2, "", "zaklimot: the command ''{script}': No closing quotation\n"),
                 ),
                 (
                     "/none/there {script}",
-                    (2, "", "vga-report: /none/there: No such file or directory\n"),
+                    (2, "", "zaklimot: /none/there: No such file or directory\n"),
                 ),
             ],
         )
         self.lines = ["a/one"]
-        message = "vga-report: no line `fonts FILE` stands before a/one in the list\n"
+        message = "zaklimot: no line `fonts FILE` stands before a/one in the list\n"
         self.assertEqual(self.run_suite(), (2, "", message))
         self.assertEqual(self.run_suite("--only", "x")[0], 2)
         self.assertEqual(self.run_suite("--bytes", ""), empty)
@@ -736,22 +733,6 @@ class Suite(Folder):
             "--only", "a/one", "--timeout", "1", "--keep", more, command="sh -c 'yes >&2' {script}"
         )
         self.assertEqual((more / "a/one.said").stat().st_size, 1 << 20)
-
-    def test_expected_pictures_without_a_program(self) -> None:
-        self.case(
-            "a/one",
-            "frame\nframe\n",
-            f"1 picture 37 9x1\n3F0000*9\n2 picture 37 9x1 {hashlib.md5(PICTURE).hexdigest()}\n",
-        )
-        path = self.write("list.txt", "\n".join(self.lines) + "\n")
-        folder = self.folder / "p"
-        written = (0, f"{folder}/a/one-0001.png\n".encode(), "")
-        self.assertEqual(run("expected", folder, "--list", path), written)
-        self.assertEqual(
-            png_rows((folder / "a/one-0001.png").read_bytes()), (9, 1, [b"\xff\0\0" * 9])
-        )
-        message = "vga-report: the command is one word of the shell: 'x {script}'\n"
-        self.assertEqual(run("suite", "x", "{script}", "--list", path), (2, b"", message))
 
     def test_several_fronts_of_names_and_some_that_are_left_out(self) -> None:
         for name in ("a/one", "a/two", "b/one", "c/one"):

@@ -14,12 +14,12 @@ from typing import Any
 from unittest import mock
 
 from zaklimot.format import Picture, Report
-from zaklimot_tools.core.progress import Progress
-from zaklimot_tools.explain.clocks import Registers
-from zaklimot_tools.trace import command
-from zaklimot_tools.trace.comparing import Recording, ShownPicture, _compare_pictures, _drawn
-from zaklimot_tools.trace.step import ADVANCE, TraceStep
-from zaklimot_tools.trace.walking import FRAME_STEP, Question
+from zaklimot.commands.core.progress import Progress
+from zaklimot.commands.explain.clocks import Registers
+from zaklimot.commands.trace import command
+from zaklimot.commands.trace.comparing import Recording, ShownPicture, _compare_pictures, _drawn
+from zaklimot.commands.trace.step import ADVANCE, TraceStep
+from zaklimot.commands.trace.walking import FRAME_STEP, Question
 
 from .test_seeing import Seen
 from .tools import Folder, hold, hold_undone, png_rows, ppm, report, stream
@@ -215,7 +215,7 @@ class Options(Folder):
             name = self.folder / "trace"
             self.assertEqual(status, 0)
             lines = said.splitlines()
-            self.assertEqual(lines[0], f"vga-trace: warning: {name}: 1 silence cut to {told}")
+            self.assertEqual(lines[0], f"zaklimot: warning: {name}: 1 silence cut to {told}")
             self.assertRegex(lines[1], r"^standard output: 3 pictures, \d\.\d{3} seconds$")
             self.assertEqual(png_rows(data)[:2], (4, 3))
         said = run("convert", "-", "-", "--frames", "clock", "--longest", "2", given=SILENT)[2]

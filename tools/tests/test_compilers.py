@@ -9,10 +9,10 @@ from types import SimpleNamespace as Namespace
 from typing import Any, Optional
 from unittest import mock
 
-from zaklimot_tools.dev.library import one_file
-from zaklimot_tools.dev.library.making import AARCH64, X86_64, Place
-from zaklimot_tools.dev.library_tests import compilers
-from zaklimot_tools.dev.library_tests.compilers import I386, WINDOWS, Built, build, make_check
+from zaklimot_dev.library import one_file
+from zaklimot_dev.library.making import AARCH64, X86_64, Place
+from zaklimot_dev.library_tests import compilers
+from zaklimot_dev.library_tests.compilers import I386, WINDOWS, Built, build, make_check
 
 from .tools import Folder, patched
 

@@ -1,32 +1,22 @@
-"""How elements are confirmed: who runs their scripts, what is told of their states, and which
-reports are none of a script."""
+"""How elements are confirmed by the reports of their scripts: what is told of their states, and
+which reports are none of a script."""
 
 from __future__ import annotations
 
-import argparse
 import unittest
-from typing import Any, Iterator, Optional
-from unittest import mock
+from typing import Any, Iterator
 
 from zaklimot.format import Step, decode
-from zaklimot_tools.core.processes import Done
-from zaklimot_tools.core.progress import Progress
-from zaklimot_tools.script.words import FONTS
-from zaklimot_tools.steps import confirming
-from zaklimot_tools.steps.answers import FRAME, REGISTERS_SHOWN, answers_in
-from zaklimot_tools.steps.comparing import differences
-from zaklimot_tools.steps.kinds import KINDS
-from zaklimot_tools.steps.parts import ANSWER, FINAL, INITIAL, PLACES, SUMS, Element
-from zaklimot_tools.steps.reading import read_elements
-from zaklimot_tools.steps.running import Runner, runner
-from zaklimot_tools.steps.scripts import confirming as confirmed
-from zaklimot_tools.steps.scripts import reached, scripted
+from zaklimot.commands.steps.comparing import differences
+from zaklimot.commands.steps.kinds import KINDS
+from zaklimot.commands.steps.parts import ANSWER, FINAL, INITIAL, PLACES, SUMS, Element
+from zaklimot.commands.steps.reading import read_elements
+from zaklimot.commands.steps.scripts import REGISTERS_SHOWN, reached, scripted
 
-from .stepping import STEPS_EXAMPLES, steps
-from .tools import PROGRAM, Folder, hold_undone, refused, takes_long, want_program
+from .confirming import FRAME, answers_in, confirming, report_of
+from .stepping import STEPS_EXAMPLES
+from .tools import takes_long
 
-# So many of the examples of each kind are run by both.
-FEW = 3
 # Kinds of which each number of a state differs in turn: with places, entries of the DAC, the beam,
 # BIOS data, and the sums of all memory.
 CHANGED = ("write-words", "dac-writes", "dots-text", "service-06", "service-00-mode-sets")
@@ -50,97 +40,11 @@ def numbers_in(value: Any) -> Iterator[tuple[Any, Any]]:
 
 
 @takes_long
-class Runs(Folder):
-    """Scripts are run by the program, or by the library."""
-
-    def test_the_library_reports_what_the_program_does(self) -> None:
-        want_program()
-        with runner(str(PROGRAM), str(FONTS)) as program, runner(None, str(FONTS)) as library:
-            for kind in KINDS:
-                few = [element for element, _ in zip(examples(kind), range(FEW))]
-                # The first again: no run leaves anything to the next.
-                for element in (*few, few[0]):
-                    script = confirmed(element).script
-                    report = program.report(script)
-                    self.assertTrue(report)
-                    self.assertEqual(library.report(script), report, element["name"])
-
-    def test_the_library_runs_them_where_no_program_is_built(self) -> None:
-        words = argparse.Namespace(vga=None, fonts=str(FONTS), first=1, jobs=1)
-        words.file = [str(STEPS_EXAMPLES / f"{kind}.json.gz") for kind in ("clock", "sequencer")]
-        asked = list[Any]()
-        tried = mock.Mock()
-
-        def given(program: Optional[str], fonts: str) -> Any:
-            asked.append((program, fonts))
-            return runner(None, fonts)
-
-        def started(commands: list[list[str]], *_: object) -> Iterator[Done]:
-            asked.append(commands)
-            yield Done(0, b"", b"")
-
-        for built in ("built", None):
-            with (
-                mock.patch.object(confirming, "built_program", return_value=built),
-                mock.patch.object(confirming, "check_program_runs", tried),
-                mock.patch.object(confirming, "runner", given),
-                mock.patch.object(confirming, "in_children", started),
-                mock.patch.object(confirming, "write"),
-            ):
-                for words.jobs in (1, 2):
-                    self.assertEqual(confirming.confirm(words, Progress(False)), 0)
-        self.assertEqual(tried.mock_calls, 2 * [mock.call("built", str(FONTS))])
-        with_program: list[list[str]] = [["--vga", "built"], []]
-        common = ["confirm", "--fonts", str(FONTS)]
-        self.assertEqual(asked[0::2], [("built", str(FONTS)), (None, str(FONTS))])
-        self.assertEqual(
-            asked[1::2],
-            [
-                [[*common, *more, "--first", "1", "--", file] for file in words.file]
-                for more in with_program
-            ],
-        )
-
-    def test_one_file_that_differs_counts_wherever_it_stands(self) -> None:
-        words = argparse.Namespace(vga=None, fonts=str(FONTS), first=1, jobs=2, file=["a", "b"])
-        for statuses, wanted in (((0, 0), 0), ((1, 0), 1), ((0, 1), 1)):
-            given = [Done(status, b"", b"") for status in statuses]
-            with mock.patch.object(confirming, "in_children", return_value=given):
-                status = confirming.confirm(words, Progress(False))
-            self.assertEqual(status, wanted, statuses)
-
-    def test_the_program_that_is_named_runs_them(self) -> None:
-        program = self.program("other", "raise SystemExit('oh')")
-        file = STEPS_EXAMPLES / "clock.json.gz"
-        for words in ((file,), (file, file, "--jobs", 2)):
-            done = steps("confirm", *words, "--first", 1, "--vga", program)
-            hold_undone(self, done, f"{program}: it runs no script with {FONTS}: oh$")
-
-    def test_what_is_no_font_file(self) -> None:
-        want_program()
-        path = self.write("fonts", "no fonts")
-        file = STEPS_EXAMPLES / "clock.json.gz"
-        for more in ((), (file, "--jobs", 2)):
-            done = steps("confirm", file, *more, "--vga", PROGRAM, "--fonts", path)
-            told = f"{PROGRAM}: it runs no script with {path}: F1 FontSize\n$"
-            hold_undone(self, done, told)
-        with runner(None, path) as library:
-            told = refused(library.report, confirmed(next(examples("clock"))).script)
-        self.assertEqual(told, f"{path}: it is no font file")
-
-    def test_what_is_no_script(self) -> None:
-        with runner(None, str(FONTS)) as library:
-            self.assertRegex(
-                refused(library.report, b"VGAS\1\xff"), ": a run of the library answers"
-            )
-
-
-@takes_long
 class Confirming(unittest.TestCase):
     def test_the_script_is_that_of_the_element(self) -> None:
         for kind in KINDS:
             for element in examples(kind):
-                steps = list(decode(confirmed(element).script).steps())
+                steps = list(decode(confirming(element).script).steps())
                 leading = reached(element)
                 self.assertEqual(steps[: len(leading)], leading)
                 others = [
@@ -149,14 +53,13 @@ class Confirming(unittest.TestCase):
                 self.assertEqual([step for step in others if step != FRAME], [scripted(element)])
 
     def test_each_number_is_told(self) -> None:
-        with runner(None, str(FONTS)) as library:
-            for kind in CHANGED:
-                # Those of whom the most is told: with sums, if any has them, and without.
-                found = sorted(examples(kind), key=self.variety)
-                summed = [element for element in found if SUMS in element[FINAL]]
-                listed = [element for element in found if SUMS not in element[FINAL]]
-                for element in (*summed[-1:], *listed[-1:]):
-                    self.hold_numbers(element, library)
+        for kind in CHANGED:
+            # Those of whom the most is told: with sums, if any has them, and without.
+            found = sorted(examples(kind), key=self.variety)
+            summed = [element for element in found if SUMS in element[FINAL]]
+            listed = [element for element in found if SUMS not in element[FINAL]]
+            for element in (*summed[-1:], *listed[-1:]):
+                self.hold_numbers(element)
 
     @staticmethod
     def variety(element: Element) -> tuple[int, int]:
@@ -165,11 +68,11 @@ class Confirming(unittest.TestCase):
         places = element[FINAL].get("planes", ())
         return len({*element[FINAL].get(SUMS, ())}), sum(any(place[1:]) for place in places)
 
-    def hold_numbers(self, element: Element, library: Runner) -> None:
+    def hold_numbers(self, element: Element) -> None:
         """Changes each number of the states and the answer in turn, and holds the report of the
         element's script against what comes of that."""
-        report = library.report(confirmed(element).script)
-        self.assertEqual([*differences(element, confirmed(element).read(report))], [])
+        report = report_of(confirming(element).script)
+        self.assertEqual([*differences(element, confirming(element).read(report))], [])
         members = {name: element[name] for name in (INITIAL, FINAL, ANSWER) if name in element}
         for value, key in numbers_in(members):
             # By the first number of a place it is looked for.
@@ -183,7 +86,7 @@ class Confirming(unittest.TestCase):
     def told(element: Element, report: bytes) -> list[str]:
         """What is told of an element whose script has this report; or that it is another's."""
         try:
-            return [*differences(element, confirmed(element).read(report))]
+            return [*differences(element, confirming(element).read(report))]
         except ValueError as error:
             return [str(error)]
 
@@ -202,9 +105,8 @@ class Confirming(unittest.TestCase):
         colours = [[entry, entry & 63, entry >> 2, 63 - (entry & 63)] for entry in (0, 1, 77, 255)]
         state = {**next(examples("write-words"))[INITIAL], "planes": planes, "colours": colours}
         element: Element = {"name": "a read", INITIAL: state, "in": [0x3CC], FINAL: state}
-        with runner(None, str(FONTS)) as library:
-            run = confirmed(element)
-            told = run.read(library.report(run.script))
+        run = confirming(element)
+        told = run.read(report_of(run.script))
         self.assertEqual([told[INITIAL], told[FINAL]], [state, state])
         dumps = [step for step in decode(run.script).steps() if step.name == "show plane"]
         self.assertEqual(

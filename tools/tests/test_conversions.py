@@ -11,9 +11,9 @@ from itertools import product
 from pathlib import Path
 
 from zaklimot.format import Answer
-from zaklimot_tools.script.words import FONTS
-from zaklimot_tools.trace.converting import Checking, Listing, convert
-from zaklimot_tools.trace.step import IN, OUT, OUTW, TraceStep
+from zaklimot.commands.script.words import FONTS
+from zaklimot.commands.trace.converting import Checking, Listing, convert
+from zaklimot.commands.trace.step import IN, OUT, OUTW, TraceStep
 
 from .tools import (
     EXAMPLES,
@@ -24,7 +24,6 @@ from .tools import (
     ppm,
     report,
     run_program,
-    run_tool,
     want_program,
 )
 from .tracing import BEGIN, listed, qemu, run, trace
@@ -115,7 +114,7 @@ class Together(Folder):
     def test_what_asks_for_time_refuses_a_trace_without_it(self) -> None:
         untimed = self.write("untimed", b"- w p 3C2 67 1\n")
         program = self.answering("ok", PICTURE)
-        told = f"^vga-trace: {re.escape(untimed)}:1: the first cycle has no time, and time is asked"
+        told = f"^zaklimot: {re.escape(untimed)}:1: the first cycle has no time, and time is asked"
         for words in (
             ("convert", untimed, "-", "--time"),
             ("convert", untimed, "-", "--frames", "clock"),
@@ -165,44 +164,12 @@ class Figures(Folder):
         more = log + qemu("read 3cc 67 1") + log.replace(b"1 of", b"1234 of")
         said = run("convert", "-", "-", given=more)[2]
         self.assertEqual(said, "3 cycles, 4 steps, 15 bytes, 1,235 polls folded: 3 in, 1 frame\n")
-        told = run("kinds", "-", given=log)[1].decode().splitlines()
-        self.assertEqual(
-            told, ["           1 read port 3DA size 1", "           1 read port 3DA or 3BA, folded"]
-        )
 
     def test_a_trace_whose_name_begins_with_a_dash(self) -> None:
         self.write("-odd.log", qemu("read 3cc 67 1"))
-        done = run_tool(
-            "vga-trace", "kinds", "--", "-odd.log", prepare=lambda: os.chdir(self.folder)
-        )
-        self.assertEqual(done, (0, b"           1 read port 3CC size 1\n", ""))
-
-    def test_polls_that_were_folded_are_those_of_the_part(self) -> None:
-        rows = (3, 20, 100)
-        data = b"".join(
-            qemu("write 3c2 67 1") + qemu("read 3da 0 1") + b"polls %d of 'vga-trace'\n" % count
-            for count in rows
-        )
-
-        def folded(*words: str) -> int:
-            lines = run("kinds", "-", *words, given=data)[1].decode().splitlines()
-            return sum(int(line.split()[0]) for line in lines if line.endswith("folded"))
-
-        hold(
-            self,
-            folded,
-            (
-                (123,),
-                ("--from", "2", 123),
-                # They come after the poll that stays.
-                ("--from", "3", 120),
-                ("--to", "5", 23),
-                ("--from", "3", "--to", "5", 20),
-                ("--from", "5", "--to", "5", 0),
-            ),
-        )
-        done = run("kinds", "-", "--from", "7", given=data)
-        hold_undone(self, done, "^vga-trace: standard input: it has 6 cycles, and no cycle 7$")
+        words = ("convert", "--text", "--", "-odd.log", "-")
+        done = run(*words, prepare=lambda: os.chdir(self.folder))
+        self.assertEqual((done[0], done[1]), (0, b"in 3CC ; = 67\nframe\n"))
 
 
 class Parts(Folder):
@@ -305,7 +272,7 @@ class Told(Folder):
         for answer in (long, f"{long}11"):
             done = run("check", self.write("trace", BEGIN), "-", given=report(answer, PICTURE))
             told = f"step 1 is `out`, and '{long[:40]}' answers none: it is of another script"
-            self.assertEqual(done, (2, b"", f"vga-trace: standard input:1: {told}\n"))
+            self.assertEqual(done, (2, b"", f"zaklimot: standard input:1: {told}\n"))
 
     def test_what_is_left_out_is_told_by_its_first_reason(self) -> None:
         checking = Checking()

@@ -12,11 +12,11 @@ import unittest
 from itertools import product
 from typing import Any, Iterable, Optional
 
-from zaklimot_tools.core.trouble import Trouble
-from zaklimot_tools.trace import converting
-from zaklimot_tools.trace.words import main
-from zaklimot_tools.trace.converting import Pauses, Written, count, folded, with_flips
-from zaklimot_tools.trace.step import ADVANCE, FRAME, IN, NAMES, OUT, OUTW, PUT, TraceStep
+from zaklimot.commands.core.trouble import Trouble
+from zaklimot.commands.trace import converting
+from zaklimot.commands.words import main
+from zaklimot.commands.trace.converting import Pauses, Written, folded, with_flips
+from zaklimot.commands.trace.step import ADVANCE, FRAME, IN, NAMES, OUT, OUTW, PUT, TraceStep
 
 from .tools import (
     EXAMPLES,
@@ -32,7 +32,7 @@ from .tools import (
     run_texts,
     want_program,
 )
-from .tracing import BEGIN, cycles, listed, qemu, registers, run, steps_listed, texts, warned
+from .tracing import BEGIN, listed, registers, run, steps_listed, texts, warned
 
 
 PICTURE = ppm(9, 1, bytes(27))
@@ -159,8 +159,6 @@ class Converting(Folder):
         text = b"out 3C2 67\nin 3CC ; = 67\nframe\n"
         figures = "2 cycles, 3 steps, {} bytes: 1 out, 1 in, 1 frame\n".format
         begins = "cycle 1 writes first, and not port 3C2: the trace doesn't begin at power-on\n"
-        kind = b"           1 %s port %s size 1\n"
-        kinds = kind % (b"write", b"3C2") + kind % (b"read", b"3CC")
         hold(
             self,
             lambda given, *words: run(*words, given=given),
@@ -169,16 +167,11 @@ class Converting(Folder):
                     (form, "convert", "-", "-", (0, script, figures(13)))
                     for form in (data, gzip.compress(data))
                 ),
-                *((form, "kinds", "-", (0, kinds, "")) for form in (data, gzip.compress(data))),
                 (data, "convert", "-", "-", "--text", (0, text, figures(31))),
-                (
-                    lacking,
-                    "kinds",
-                    "-",
-                    (0, kind % (b"write", b"3C4"), f"vga-trace: warning: standard input: {begins}"),
-                ),
             ),
         )
+        said = run("convert", "-", "-", given=lacking)[2]
+        self.assertIn(f"zaklimot: warning: standard input: {begins}", said)
         path = self.folder / "script"
         done = run("convert", self.write("trace", gzip.compress(data)), path)
         self.assertEqual((done, path.read_bytes()), ((0, figures(13).encode(), ""), script))
@@ -204,10 +197,12 @@ class Converting(Folder):
             path = self.write("trace", data)
             ways = f"`--to {last}` ends before that, and `--from {last + 1}` goes on after it"
             with self.subTest(most), patched(converting, limits):
-                told = f"vga-trace: {path}: the script has more than {most}; {ways}\n"
-                self.assertEqual(call(main, "convert", path, script), (2, "", told))
+                told = f"zaklimot: {path}: the script has more than {most}; {ways}\n"
+                self.assertEqual(call(main, "trace", "convert", path, script), (2, "", told))
                 self.assertFalse(os.path.exists(script))
-                self.assertEqual(call(main, "convert", path, script, "--to", str(last))[0], 0)
+                self.assertEqual(
+                    call(main, "trace", "convert", path, script, "--to", str(last))[0], 0
+                )
                 os.unlink(script)
 
     def test_version_2_where_there_are_blocks_and_they_are_wanted(self) -> None:
@@ -221,33 +216,13 @@ class Converting(Folder):
         data = b"VGAS\x01" + bytes.fromhex("01C20367" + 6 * "03C903" + "0B")
         self.assertEqual(run("convert", "-", "-", "--no-repeat", given=given)[1], data)
 
-    def test_cycles_are_counted_as_they_are(self) -> None:
-        lines = qemu("write 3c4 2 1") + 2 * qemu("read 3c4 2 2") + qemu("write 1ce 4 2", "vbe")
-        for address in ("a0000", "affff", "b0000", "b8000", "c0000"):
-            lines += qemu(f"write {address} 1 1", "vga-lowmem")
-        self.assertEqual(
-            count(cycles(lines)),
-            {
-                "write port 3C4 size 1": 1,
-                "read port 3C4 size 2": 2,
-                "write vbe 1CE size 2": 1,
-                "write memory A0000 size 1": 2,
-                "write memory B0000 size 1": 1,
-                "write memory B8000 size 1": 1,
-                "write memory elsewhere size 1": 1,
-            },
-        )
-
-    def test_the_cycles_between_two(self) -> None:
-        data = BEGIN + b"- w p 3C4 1 1\n- w p 3C5 1 1\n- w p 3CE 1 1\n"
-        counted = b"           1 write port 3C4 size 1\n           1 write port 3C5 size 1\n"
-        self.assertEqual(run("kinds", "-", "--from", "2", "--to", "3", given=data)[1], counted)
-
 
 class Endings(Folder):
     def test_a_trace_without_an_end(self) -> None:
         script = self.folder / "script"
-        command = begin("vga-trace", "convert", "-", script, "--to", "3", stdin=subprocess.PIPE)
+        command = begin(
+            "zaklimot", "trace", "convert", "-", script, "--to", "3", stdin=subprocess.PIPE
+        )
         self.addCleanup(command.communicate)
         self.addCleanup(command.kill)
         assert command.stdin is not None
@@ -261,15 +236,15 @@ class Endings(Folder):
 
     def test_a_moment_of_a_trace_without_an_end(self) -> None:
         want_program()
-        words = ("palette", "-", self.folder / "o.gpl", "--cycle", "3", "--vga", PROGRAM)
-        command = begin("vga-trace", *words, stdin=subprocess.PIPE)
+        words = ("text", "-", self.folder / "o.txt", "--cycle", "3", "--vga", PROGRAM)
+        command = begin("zaklimot", "trace", *words, stdin=subprocess.PIPE)
         self.addCleanup(command.communicate)
         self.addCleanup(command.kill)
         assert command.stdin is not None
         with contextlib.suppress(BrokenPipeError):
             for _ in range(1000):
                 command.stdin.write(1000 * BEGIN)
-        self.assertEqual((command.wait(60), self.names()), (0, ["o.gpl"]))
+        self.assertEqual((command.wait(60), self.names()), (0, ["o.txt"]))
 
     def test_a_compressed_trace_that_is_cut_off(self) -> None:
         for data, cut in product(
@@ -277,7 +252,7 @@ class Endings(Folder):
         ):
             path = self.write("trace", gzip.compress(data)[:-cut])
             told = (
-                rf"^vga-trace: {path}(:[1-9]\d*: its compressed bytes are damaged after this line|"
+                rf"^zaklimot: {path}(:[1-9]\d*: its compressed bytes are damaged after this line|"
                 r": its compressed bytes are damaged): .*\n$"
             )
             hold_undone(self, run("convert", path, self.folder / "script"), told)
@@ -371,7 +346,7 @@ class Checking(Folder):
         self.assertEqual([line.split()[0] for line in lines], ["4", "read", "differ"])
 
     def test_a_report_of_another_script(self) -> None:
-        other = "vga-trace: standard input:{}: it is of another script\n".format
+        other = "zaklimot: standard input:{}: it is of another script\n".format
         hold(
             self,
             self.check,
@@ -396,7 +371,7 @@ class Checking(Folder):
                 ),
             ),
         )
-        said = "vga-trace: standard input:2: step 2 is to come, and not '3 ok'\n"
+        said = "zaklimot: standard input:2: step 2 is to come, and not '3 ok'\n"
         self.assertEqual(
             run("check", self.write("trace", self.TRACE), "-", given=b"1 ok\n3 ok\n"),
             (2, b"", said),

@@ -8,11 +8,11 @@ import io
 import json
 import unittest
 
-from zaklimot_tools.core.processes import Done
-from zaklimot_tools.core.progress import Progress
-from zaklimot_tools.dev.testing import checking
-from zaklimot_tools.dev.testing.checking import check_suite
-from zaklimot_tools.dev.testing.running import Counts
+from zaklimot.commands.core.processes import Done
+from zaklimot.commands.core.progress import Progress
+from zaklimot_dev.testing import checking
+from zaklimot_dev.testing.checking import check_suite
+from zaklimot_dev.testing.running import Counts
 
 from .tools import hold, patched
 

@@ -7,9 +7,9 @@ from typing import Iterable, Optional
 from unittest import mock
 
 from zaklimot.format import Answer, Picture
-from zaklimot_tools.core.progress import Progress
-from zaklimot_tools.report.expecting import differing, what_differs
-from zaklimot_tools.report.report import Comparison, Expected, Report
+from zaklimot.commands.core.progress import Progress
+from zaklimot.commands.report.expecting import differing, what_differs
+from zaklimot.commands.report.report import Comparison, Expected, Report
 
 from .tools import BLACK, RED, WHITE, Folder, hold, ppm, refused, report, stream
 

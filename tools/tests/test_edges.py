@@ -14,8 +14,8 @@ from itertools import product
 from pathlib import Path
 from typing import Callable, Optional
 
-from zaklimot_tools.script.program import PROGRAM as BUILT_PROGRAM
-from zaklimot_tools.script.words import FONTS
+from zaklimot.commands.script.program import PROGRAM as BUILT_PROGRAM
+from zaklimot.commands.script.words import FONTS
 
 from .tools import (
     MOST_SECONDS,

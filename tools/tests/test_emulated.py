@@ -1,4 +1,4 @@
-"""The emulators of vga-floppy: the words that start each, their versions, and the screen that a run
+"""The emulators of zaklimot: the words that start each, their versions, and the screen that a run
 leaves; by programs that stand in their places."""
 
 from __future__ import annotations
@@ -9,8 +9,8 @@ import unittest
 from pathlib import Path
 from unittest import mock
 
-from zaklimot_tools.floppy import running
-from zaklimot_tools.floppy.running import MACHINES, Margin, PackagedFile, window_image
+from zaklimot.commands.floppy import running
+from zaklimot.commands.floppy.running import MACHINES, Margin, PackagedFile, window_image
 
 from .floppy import machine
 from .tools import Folder, hold, png_rows, refused, run_tool
@@ -175,7 +175,7 @@ class Screens(Programs):
         script = self.write("script.vga", "in 3CC\n")
         picture = ("--picture", self.folder / "p.png")
         with mock.patch.dict(os.environ, TMPDIR=self.temporary()):
-            return run_tool("vga-floppy", "run", "--on", "dosbox", *picture, script, *words)
+            return run_tool("zaklimot", "floppy", "run", "--on", "dosbox", *picture, script, *words)
 
     def test_the_last_screen_as_a_picture(self) -> None:
         left = self.write("left", machine(b"in 3CC\n").image)
@@ -199,5 +199,5 @@ class Screens(Programs):
         self.shell("dosbox", "sleep 600")
         self.shell("xwininfo", "exit")
         self.shell("Xvfb", "exit 1")
-        self.assertEqual(self.run_seen(), (2, b"", "vga-floppy: Xvfb has given no display\n"))
+        self.assertEqual(self.run_seen(), (2, b"", "zaklimot: Xvfb has given no display\n"))
         self.assertFalse((self.folder / "p.png").exists())

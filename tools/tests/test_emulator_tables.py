@@ -8,10 +8,10 @@ from pathlib import Path
 from typing import Any
 from unittest import mock
 
-from zaklimot_tools.dev.emulators import table_page
-from zaklimot_tools.dev.emulators.table_page import FIRST_MARK, LAST_MARK
-from zaklimot_tools.floppy import running
-from zaklimot_tools.floppy.running import MACHINES
+from zaklimot_dev.emulators import table_page
+from zaklimot_dev.emulators.table_page import FIRST_MARK, LAST_MARK
+from zaklimot.commands.floppy import running
+from zaklimot.commands.floppy.running import MACHINES
 
 from .tools import Folder, call, hold, hold_undone, main_of
 
@@ -60,7 +60,7 @@ class Tables(Folder):
 
     def results(self, name: str, words: str, *rules: dict[str, Any]) -> str:
         """A file of what the suite printed of an emulator."""
-        told = {"command": f"tools/vga-floppy run {words} {{script}}", "rules": rules}
+        told = {"command": f"zaklimot floppy run {words} {{script}}", "rules": rules}
         return self.write(name, json.dumps(told))
 
     def table(self, *results: str) -> tuple[int, str, str]:
@@ -161,7 +161,7 @@ class Tables(Folder):
     def test_a_command_that_is_no_text(self) -> None:
         for command in (5, None, ["--on qemu"]):
             other = self.write("two", json.dumps({"command": command, "rules": []}))
-            hold_undone(self, self.table(other), f"^vga-emulators: {other}: it isn't what `vga-rep")
+            hold_undone(self, self.table(other), f"^vga-emulators: {other}: it isn't what `zakli")
 
     def test_a_page_is_a_file(self) -> None:
         one = self.results("one", "--on qemu", rule("R.", case("a/1", "agrees", 1)))
@@ -171,7 +171,9 @@ class Tables(Folder):
         before = self.page.read_bytes()
         for words in ("--on nothing", "--bios sea"):
             other = self.results("two", words, rule("R.", case("a/1", "agrees", 1)))
-            told = f"^vga-emulators: {other}: its command is no `vga-floppy run --on` of an emul"
+            told = (
+                f"^vga-emulators: {other}: its command is no `zaklimot floppy run --on` of an emul"
+            )
             hold_undone(self, self.table(one, other), told)
         self.assertEqual(self.page.read_bytes(), before)
 

@@ -7,7 +7,6 @@ import io
 import json
 import os
 import re
-import signal
 import unittest
 from functools import partial
 from itertools import product
@@ -16,13 +15,12 @@ from unittest import mock
 from xml.etree import ElementTree
 
 from zaklimot.format import Answer, count_in, lines_in, places_in, steps_in, words_in
-from zaklimot_tools.core.trouble import Trouble
-from zaklimot_tools.report.expecting import dumps_in, expected_in, is_worth_telling
-from zaklimot_tools.script import program
-from zaklimot_tools.script.reading import text_of
+from zaklimot.commands.core.trouble import Trouble
+from zaklimot.commands.report.expecting import dumps_in, expected_in, is_worth_telling
+from zaklimot.commands.script.reading import text_of
 
 from .running import Fake, run
-from .tools import EXAMPLES, PROGRAM, begin, hold, refused, takes_long, want_program
+from .tools import EXAMPLES, PROGRAM, hold, takes_long, want_program
 
 # What the program does first where two runs of it are to be under way at a time.
 TOGETHER = """import glob, os, time
@@ -180,10 +178,13 @@ class Several(Fake):
                 " scripts, 1 differs\n"
             ),
         )
+        # What is as expected is not told where that is asked for.
+        quiet = self.run_script("--quiet", path=str(self.tests))[1]
+        self.assertEqual(quiet, "".join(output.splitlines(True)[1:]))
         # One at a time, if no more are asked for; and each gets the options.
         self.begin_program(ALONE)
-        output = self.run_script("--strict", "--diff", path=str(self.tests))[1]
-        self.assertIn("\n-get 0 ; = 55\n-in 60\n+get 0 ; = E6\n+in 60 ; = E1 NotDecoded\n", output)
+        output = self.run_script("--strict", path=str(self.tests))[1]
+        self.assertIn("step 2: IN 60 answers E1 NotDecoded", output)
         self.begin_program(
             "if sys.argv[1] == 'go' and sys.argv[3:] != ['--fonts', 'f', '--until', '1']:"
             " sys.exit(9)\n"
@@ -208,7 +209,7 @@ class Several(Fake):
 
     def test_json_is_made_where_it_is_wanted_alone(self) -> None:
         # For each step it takes as long as all else.
-        wrong = mock.patch("zaklimot_tools.report.listing._told", side_effect=MemoryError)
+        wrong = mock.patch("zaklimot.commands.report.listing._told", side_effect=MemoryError)
         with wrong:
             status, output, said = self.run_script(path=str(self.tests))
             self.assertEqual((status, said), (1, ""))
@@ -218,9 +219,9 @@ class Several(Fake):
 
     def test_a_script_that_was_not_even_begun_is_null_in_the_json(self) -> None:
         told = self.folder / "told.json"
-        with mock.patch("zaklimot_tools.report.runs.tallied", side_effect=Trouble("no room")):
+        with mock.patch("zaklimot.commands.report.runs.tallied", side_effect=Trouble("no room")):
             status, _, said = self.run_script("--json", str(told), path=str(self.tests))
-        self.assertEqual((status, said), (2, "vga-report: no room\n" * 2))
+        self.assertEqual((status, said), (2, "zaklimot: no room\n" * 2))
         self.assertEqual(json.loads(told.read_text()), [None, None])
 
     def test_no_script_is_written_over(self) -> None:
@@ -235,7 +236,7 @@ class Several(Fake):
             name, prepare = ("standard output", onto) if len(words) == 1 else (script, bool)
             done = run("run", *words, "--vga", self.vga, prepare=prepare)
             self.assertEqual(
-                done, (2, b"", f"vga-report: {name}: it is read as {script}, so it isn't written\n")
+                done, (2, b"", f"zaklimot: {name}: it is read as {script}, so it isn't written\n")
             )
         self.assertEqual(Path(script).read_text(), "get 0 ; = E6\n")
 
@@ -279,106 +280,3 @@ class Several(Fake):
         self.assertEqual((suite.tag, suite.get("tests"), len(suite)), ("testsuite", "2", 2))
         done = self.run_script("--json", "-", path=str(self.tests))
         self.assertEqual((done[0], done[2], len(json.loads(done[1]))), (1, text, 2))
-
-    def test_the_program_is_built_or_tried_where_it_is_lacking(self) -> None:
-        # A toolchain that notes what it is asked for, builds the program once that is there, and
-        # tries none to its end.
-        build = f"mkdir -p out; cp {self.folder}/ready out/vga || {{ echo crate vga >&2; exit 3; }}"
-        rt = self.program(
-            "bin/rt", f'#!/bin/sh\nwords=$*; echo "${{words%% --data*}}" >> asked; {build}\n'
-        )
-        crate = Path(self.write("crate/src/main.rt", "")).parents[1]
-        told = self.run_script()[1].encode()
-        path = {"PATH": f"{Path(rt).parent}{os.pathsep}{os.environ['PATH']}"}
-        limits = "60 seconds and 1 MiB of output, which two pictures of text fill"
-        with mock.patch.dict(os.environ, path), mock.patch.multiple(
-            program, CRATE=crate, PROGRAM=crate / "out/vga"
-        ):
-            self.assertIn(
-                "rt: it ended with status 3\n",
-                refused(program.build_program, progress := mock.Mock()),
-            )
-            self.assertRegex(
-                progress.tell.call_args[0][0], r" building the program: vga, crate (\d+) of \1$"
-            )
-            self.assertIn(
-                f" not run it to its end, within {limits}: crate vga\n",
-                run("run", self.path, "--try")[2],
-            )
-            self.vga.rename(self.folder / "ready")
-            for _ in "12":
-                self.assertEqual(run("run", self.path, "--build"), (0, told, ""))
-        self.assertEqual((crate / "asked").read_text(), "run -- --help\ntry\nrun -- --help\n")
-
-    def test_what_stands_before_the_limit_of_a_try(self) -> None:
-        # A toolchain that runs no script past its first picture.
-        two = self.write("two.vga", "frame\nget 0\nframe\nframe\n")
-        crate = Path(self.write("crate/src/main.rt", "")).parents[1]
-        tries = f"{self.vga} go {two} --fonts - --until 2; echo run=ended status=0 >&2"
-        ends = "(head -c 99999 /dev/zero; echo; echo checked: too much; echo run=no-answer) >&2"
-        rt = self.program(
-            "bin/rt", f'#!/bin/sh\ncase "$*" in *"--until 2") {tries};; *) {ends};; esac\n'
-        )
-        told = self.folder / "told"
-        path = f"{Path(rt).parent}{os.pathsep}{os.environ['PATH']}"
-        with mock.patch.dict(os.environ, {"PATH": path}), mock.patch.object(
-            program, "CRATE", crate
-        ):
-            status, output, said = run("run", two, "--try", "--json", str(told))
-            self.assertEqual(
-                (status, [line.split()[1] for line in output.splitlines()]),
-                (2, [b"step", b"1", b"2"]),
-            )
-            self.assertIn("fill; --until 2 ends before the second: too much\n", said)
-            self.assertEqual(
-                (
-                    run("run", two, "--try", "--until", "2")[0],
-                    len(json.loads(told.read_text())["answers"]),
-                ),
-                (0, 2),
-            )
-            self.assertNotIn("the second", run("run", two, "--try", "--until", "1")[2])
-            # What can't be built isn't asked for again.
-            Path(rt).write_text("#!/bin/sh\necho >> asked\necho no crate >&2\n")
-            self.assertTrue(
-                run("run", two, "--try")[2].endswith("two pictures of text fill: no crate\n")
-            )
-            self.assertEqual((crate / "asked").read_text(), "\n")
-
-    def test_it_runs_again_when_the_script_changes(self) -> None:
-        words: list[str | Path] = [
-            "run",
-            self.path,
-            "--vga",
-            self.vga,
-            "--quiet",
-            "--watch",
-            "--json",
-            told_in := self.folder / "page",
-        ]
-        words += ["--fonts", fonts := self.write("fonts", "1")]
-        process = begin("vga-report", *words, text=True)
-        assert process.stdout is not None and process.stderr is not None
-        with process.stdout, process.stderr:
-            # What is not as it should be ends the watching all the same.
-            self.addCleanup(process.wait)
-            self.addCleanup(process.kill)
-            self.assertIn("6 steps", process.stdout.readline())
-            self.write("s.vga", "frame\n")
-            told = process.stdout.readline(), process.stdout.readline()
-            self.assertEqual(
-                told, (f"{self.path} has changed\n", f"{self.path}: 1 step, 1 picture\n")
-            )
-            # The file takes its place once all is told.
-            self.wait_until(lambda: '"steps": 1, ' in told_in.read_text("utf-8"))
-            self.write("fonts", "2")
-            self.assertEqual(
-                process.stdout.readline() + process.stdout.readline(),
-                "".join(told).replace(self.path, fonts, 1),
-            )
-            self.write("s.vga", "move\n")
-            self.assertEqual(process.stdout.readline(), f"{self.path} has changed\n")
-            self.assertIn("F7 BadLine(1)", process.stderr.readline())
-            process.send_signal(signal.SIGINT)
-            self.assertEqual(process.wait(60), 130)
-            self.assertNotIn("Traceback", process.stderr.read())

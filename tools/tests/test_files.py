@@ -13,8 +13,8 @@ import unittest
 from pathlib import Path
 from unittest import mock
 
-from zaklimot_tools.core.cli import Ended
-from zaklimot_tools.core.files import (
+from zaklimot.commands.core.cli import Ended
+from zaklimot.commands.core.files import (
     Input,
     Output,
     OutputOrFolder,
@@ -22,10 +22,10 @@ from zaklimot_tools.core.files import (
     files,
     files_of_run,
 )
-from zaklimot_tools.core.streams import empty_folder, write_over, writing
+from zaklimot.commands.core.streams import empty_folder, write_over, writing
 
 from .running import Fake
-from .tools import PYTHON, TOOLS, Folder, begin, ended, hold_undone, ppm, refused, run_tool
+from .tools import PYTHON, TOOLS, TOP, Folder, begin, ended, hold_undone, ppm, refused, run_tool
 
 
 BOTH = "two outputs have this name, and one would be lost\n"
@@ -256,16 +256,14 @@ class Tools(Fake):
         self.write("t.vga", "frame\n")
         self.write("i", PICTURE)
         self.begin_program(f"open({str(self.folder / 'begun')!r}, 'w')\n")
-        run = f"vga-report run t.vga --vga {self.vga}"
+        run = f"zaklimot run t.vga --vga {self.vga}"
         for words, name in (
             (f"{run} --junit o --json o", "o"),
             (f"{run} --json o --junit o", "o"),
             (f"{run} --junit - --json -", "standard output"),
-            ("vga-report compare r s --picture o --html o", "o"),
-            ("vga-floppy run --on qemu t.vga o --picture o", "o"),
-            ("vga-floppy run --on qemu t.vga --picture -", "standard output"),
-            ("vga-picture script i o --mode 13 --picture o", "o"),
-            ("vga-trace pictures t.vga d --apng d", "d"),
+            ("zaklimot floppy run --on qemu t.vga o --picture o", "o"),
+            ("zaklimot floppy run --on qemu t.vga --picture -", "standard output"),
+            ("zaklimot trace pictures t.vga d --apng d", "d"),
         ):
             with self.subTest(words):
                 tool, *rest = words.split()
@@ -275,17 +273,17 @@ class Tools(Fake):
                 self.assertEqual(self.names(), before)
         given = f"{run} --pictures d --json d/0003.png".split()[1:]
         (self.folder / "d").mkdir()
-        done = run_tool("vga-report", *given, prepare=lambda: os.chdir(self.folder))
-        hold_undone(self, done, "^vga-report: d/0003.png: a picture of d would have this name\n$")
+        done = run_tool("zaklimot", *given, prepare=lambda: os.chdir(self.folder))
+        hold_undone(self, done, "^zaklimot: d/0003.png: a picture of d would have this name\n$")
         self.assertFalse((self.folder / "begun").exists())
 
     def test_a_script_that_an_editor_changes_while_it_runs(self) -> None:
         path = self.write("t.vga", "get 0\n")
         adding = f"lambda: open({path!r}, 'a').write('in 60\\n')"
         self.begin_program(f"import atexit\nif sys.argv[1] == 'go': atexit.register({adding})\n")
-        done = run_tool("vga-report", "run", path, "--bless", "--vga", self.vga)
+        done = run_tool("zaklimot", "run", path, "--bless", "--vga", self.vga)
         self.assertEqual((done[0], Path(path).read_text()), (2, "get 0\nin 60\n"))
-        self.assertIn(f"vga-report: {path}: it has changed since it was read", done[2])
+        self.assertIn(f"zaklimot: {path}: it has changed since it was read", done[2])
 
     def test_folders_of_runs_that_fail(self) -> None:
         self.write("bad", "1 picture 9\n")
@@ -293,17 +291,17 @@ class Tools(Fake):
         ways: tuple[tuple[str | Path, ...], ...] = (
             ("pictures", "bad", "a/b"),
             ("run", "bad.vga", "--pictures", "a", "--vga", self.vga),
-            ("scripts", "a", "--list", "none"),
+            ("suite", "--scripts", "a", "--list", "none"),
         )
         for words in ways:
-            done = run_tool("vga-report", *words, prepare=lambda: os.chdir(self.folder))
+            done = run_tool("zaklimot", *words, prepare=lambda: os.chdir(self.folder))
             self.assertEqual((done[0], (self.folder / "a").exists()), (2, False), words)
         # A run that has begun, but has come to no picture.
         self.write("s.vga", "get 0\nframe\nget 0\n")
         for lines in (1, 6):
             self.program("short", f'#!/bin/sh\n{self.vga} "$@" | head -n {lines}\n')
             words = ("run", "s.vga", "--pictures", "a/b", "--vga", "./short")
-            done = run_tool("vga-report", *words, prepare=lambda: os.chdir(self.folder))
+            done = run_tool("zaklimot", *words, prepare=lambda: os.chdir(self.folder))
             self.assertEqual((done[0], (self.folder / "a").exists()), (2, lines > 1))
 
     def test_a_folder_or_a_file_in_the_place_of_the_program(self) -> None:
@@ -313,8 +311,8 @@ class Tools(Fake):
             (plain, "it is no program: there is no permission to run it"),
             ("/none/such", "No such file or directory"),
         ):
-            done = run_tool("vga-report", "run", path, "--vga", given)
-            self.assertEqual(done, (2, b"", f"vga-report: {given}: {told}\n"))
+            done = run_tool("zaklimot", "run", path, "--vga", given)
+            self.assertEqual(done, (2, b"", f"zaklimot: {given}: {told}\n"))
 
     def test_fonts_that_are_wrong(self) -> None:
         path = self.write("t.vga", "frame\n")
@@ -325,10 +323,10 @@ class Tools(Fake):
             ("/none", "No such file or directory"),
             (str(self.folder), "directory"),
         ):
-            done = run_tool("vga-report", "run", path, "--vga", self.vga, "--fonts", given)
+            done = run_tool("zaklimot", "run", path, "--vga", self.vga, "--fonts", given)
             self.assertEqual((done[0], done[1]), (2, b""))
             self.assertRegex(
-                done[2], f"^vga-report: {given}: .*the font file can't be read: .*{told}"
+                done[2], f"^zaklimot: {given}: .*the font file can't be read: .*{told}"
             )
 
 
@@ -359,7 +357,8 @@ class Recordings(Folder):
             made = self.folder / "made"
             done = ended(
                 *PYTHON,
-                TOOLS / "vga-trace",
+                TOP / "zaklimot",
+                "trace",
                 "record",
                 made,
                 *words,
@@ -373,17 +372,16 @@ class Recordings(Folder):
 
     def test_no_option_is_advised_that_the_tool_lacks(self) -> None:
         (self.folder / "tools").mkdir()
-        for name in ("tools/zaklimot_tools", "bindings", "fonts", "include"):
-            (self.folder / name).symlink_to(TOOLS.parent / name)
-        (self.folder / "tools" / "zaklimot_tools").unlink()
-        copied = (TOOLS / name for name in ("zaklimot_tools", "vga-trace", "vga"))
-        self.assertEqual(ended("cp", "-r", *copied, self.folder / "tools")[0], 0)
+        for name in ("fonts", "include"):
+            (self.folder / name).symlink_to(TOP / name)
+        self.assertEqual(ended("cp", "-r", TOP / "python", TOP / "zaklimot", self.folder)[0], 0)
+        self.assertEqual(ended("cp", TOOLS / "vga", self.folder / "tools")[0], 0)
         given = {**os.environ, "PATH": "/nowhere"}
-        trace = self.folder / "tools" / "vga-trace"
-        words = ("record", self.folder / "made", "--", "-cdrom", "disc")
+        trace = self.folder / "zaklimot"
+        words = ("trace", "record", self.folder / "made", "--", "-cdrom", "disc")
         done = ended(sys.executable, trace, *words, env=given)
-        hold_undone(self, done, "^vga-trace: there is no program vga, .*: --vga names one\n$")
-        done = ended(sys.executable, trace.with_name("vga"), "--help", env=given)
+        hold_undone(self, done, "^zaklimot: there is no program vga, .*: --vga names one\n$")
+        done = ended(sys.executable, self.folder / "tools" / "vga", "--help", env=given)
         hold_undone(
             self, done, "^vga: there is no program vga, .*README.md says how it is built\n$"
         )
@@ -396,32 +394,40 @@ class Endings(Folder):
             signal.signal(signal.SIGHUP, signal.SIG_IGN)
 
         given = {"stdin": subprocess.PIPE, "preexec_fn": ignore}
-        process = begin("vga-report", "text", "-", **given)
+        process = begin(
+            "zaklimot", "compare", "-", self.report("other", *["ok", "55"] * 2500), "--all", **given
+        )
         assert process.stdin is not None and process.stdout is not None
         with process:
             process.stdin.write(b"".join(b"%d ok\n" % at for at in range(1, 5000)))
             process.stdin.flush()
-            # It works by now: an answer has come.
-            self.assertEqual(process.stdout.readline(), b"1 ok\n")
+            # It works by now: a difference is told.
+            self.assertEqual(process.stdout.readline(), b"step 2 differs\n")
             process.send_signal(signal.SIGHUP)
-            output, said = process.communicate(b"5000 55\n", timeout=60)
-        self.assertEqual((process.returncode, said), (0, b""))
-        self.assertTrue(output.endswith(b"\n4999 ok\n5000 55\n"))
+            process.stdin.write(b"5000 E6\n")
+            process.stdin.close()
+            output = process.stdout.read()
+            self.assertEqual(process.wait(60), 1)
+        self.assertIn(b"\nstep 5000 differs\n  standard input:5000: E6\n", output)
 
     def test_an_error_that_can_not_be_told(self) -> None:
-        for words in (("text", "/none"), ("no-such-command",), ("run", "/none", "--vga", "/none")):
+        for words in (
+            ("pictures", "/none", "-"),
+            ("no-such-command",),
+            ("run", "/none", "--vga", "/none"),
+        ):
             with open("/dev/full", "wb") as full:
-                done = ended(*PYTHON, TOOLS / "vga-report", *words, stderr=full)
+                done = ended(*PYTHON, TOP / "zaklimot", *words, stderr=full)
             self.assertEqual(done, (2, "", None), words)
 
     def test_an_interrupt_while_a_tool_begins(self) -> None:
         for delay in (0.02, 0.05, 0.1, 0.2):
-            process = begin("vga-report", "--help", start_new_session=True)
+            process = begin("zaklimot", "--help", start_new_session=True)
             time.sleep(delay)
             process.send_signal(signal.SIGINT)
             _, said = process.communicate()
             with self.subTest(delay=delay):
-                self.assertNotIn(b"zaklimot_tools", said)
+                self.assertNotIn(b"zaklimot", said)
 
     @unittest.skipUnless(
         Path("/proc/self/stat").exists(), "processes are looked at as Linux shows them"
@@ -437,7 +443,7 @@ class Endings(Folder):
             self.write(f"case{number}.txt", "1 ok\n")
         words = ("--list", self.folder / "list.txt", "--jobs", "12")
         command = f"{harness} {self.folder / 'begun'} {{script}}"
-        process = begin("vga-report", "suite", command, *words, start_new_session=True)
+        process = begin("zaklimot", "suite", command, *words, start_new_session=True)
         self.wait_until(lambda: len(list(self.folder.glob("begun.*"))) == 12, process)
         for _ in range(3):
             process.send_signal(signal.SIGINT)
@@ -460,7 +466,7 @@ class Folders(Folder):
         for number in range(8):
             self.write(f"scripts/{number}.vga", "frame\n")
         words = ("run", self.folder / "scripts", "--vga", vga, "--jobs", "4")
-        process = begin("vga-report", *words, start_new_session=True)
+        process = begin("zaklimot", *words, start_new_session=True)
         self.wait_until(lambda: len(list(self.folder.glob("vga.*"))) == 4, process)
         process.send_signal(signal.SIGINT)
         _, said = process.communicate(timeout=60)
@@ -484,7 +490,7 @@ class Suite(Folder):
             (("failed",), 2),
         ):
             path = self.write("list.txt", "".join(f"{name}\n" for name in cases))
-            done = run_tool("vga-report", "suite", harness, "--list", path)
+            done = run_tool("zaklimot", "suite", harness, "--list", path)
             self.assertEqual((done[0], done[2]), (status, ""), cases)
 
 
@@ -492,5 +498,5 @@ class Reports(Folder):
     def test_a_report_is_no_folder(self) -> None:
         script = self.write("t.vga", "in 3CC\n")
         words = ("run", "--on", "dosbox", script, str(self.folder))
-        done = run_tool("vga-floppy", *words)
-        self.assertEqual(done, (2, b"", f"vga-floppy: {self.folder}: it is a folder\n"))
+        done = run_tool("zaklimot", "floppy", *words)
+        self.assertEqual(done, (2, b"", f"zaklimot: {self.folder}: it is a folder\n"))

@@ -19,27 +19,34 @@ from typing import Callable
 from unittest import mock
 
 from zaklimot.format import Script, Step
-from zaklimot_tools.core.processes import started
-from zaklimot_tools.dev.emulators.words import main as emulators
-from zaklimot_tools.dev.emulators.table_page import FIRST_MARK, LAST_MARK
-from zaklimot_tools.explain.faults import script_of
-from zaklimot_tools.core.trouble import Trouble
-from zaklimot_tools.floppy import image as images, rows, running
-from zaklimot_tools.floppy.image import CODE, Run, image_for, read_image, read_record, report_lines
-from zaklimot_tools.floppy.asked import DOSBOX
-from zaklimot_tools.floppy.running import MACHINES
-from zaklimot_tools.floppy.table import Table, is_for_machine, reset_steps, table_for
-from zaklimot_tools.report.cases import read_cases
-from zaklimot_tools.report.places import SUITE
-from zaklimot_tools.explain.banks import Bank
-from zaklimot_tools.trace.state import State
-from zaklimot_tools.trace.step import GET, IN, OUT, PUT, TraceStep
+from zaklimot.commands.core.processes import started
+from zaklimot_dev.emulators.words import main as emulators
+from zaklimot_dev.emulators.table_page import FIRST_MARK, LAST_MARK
+from zaklimot.commands.explain.faults import script_of
+from zaklimot.commands.core.trouble import Trouble
+from zaklimot.commands.floppy import image as images, running
+from zaklimot.commands.floppy.image import (
+    CODE,
+    Run,
+    image_for,
+    read_image,
+    read_record,
+    report_lines,
+)
+from zaklimot.commands.floppy.asked import DOSBOX
+from zaklimot.commands.floppy.running import MACHINES
+from zaklimot.commands.floppy.table import Table, is_for_machine, reset_steps, table_for
+from zaklimot.commands.report.cases import read_cases
+from zaklimot.commands.report.places import SUITE
+from zaklimot.commands.explain.banks import Bank
+from zaklimot.commands.trace.state import State
+from zaklimot.commands.trace.step import GET, IN, OUT, PUT, TraceStep
 
-from .floppy import ANSWERS, KEYS, MARK, Machine, cycles, line, machine
-from .tools import TOOLS, TOP, Folder, begin, call, ended, hold, hold_undone, refused, run_tool
+from .floppy import ANSWERS, KEYS, LETTERS, MARK, PAGE, ROW, Machine, cycles, line, machine
+from .tools import TOP, Folder, begin, call, ended, hold, hold_undone, refused, run_tool
 
 
-run = partial(run_tool, "vga-floppy")
+run = partial(run_tool, "zaklimot", "floppy")
 SCRIPT = b"""version 2
 outw 3C4 0F02
 in 3CC
@@ -156,15 +163,14 @@ class Interpreting(unittest.TestCase):
             ("INTERPRETER_SIZE", 3072),
             ("HEADER_SIZE", 16),
             ("PARTITIONS", images.PARTITIONS_AT),
-            ("ROW_BYTES", rows.ROW_BYTES),
-            ("PAGE_ROWS", rows.PAGE_ROWS),
+            ("ROW_BYTES", ROW),
+            ("PAGE_ROWS", PAGE // ROW),
             ("ROW_OF_CHECKS", "0x8000"),
             ("ROW_OF_ALL", "0xffff"),
             ("POLYNOMIAL", "0x1021"),
         ):
             self.assertRegex(source, rf"(?m)^{name} +equ {value}\b")
-        self.assertEqual((rows.ROW_OF_CHECKS, rows.ROW_OF_ALL), (0x8000, 0xFFFF))
-        for name, letters in (("consonants", rows.CONSONANTS), ("vowels", rows.VOWELS)):
+        for name, letters in (("consonants", LETTERS[0]), ("vowels", LETTERS[1])):
             self.assertRegex(source, rf"(?m)^{name} +db '{letters}'$")
         self.assertIn(f"keys    db '{KEYS}', 0\n", source)
         self.assertEqual(len(CODE.read_bytes()), images.CODE_SIZE)
@@ -231,12 +237,12 @@ class Images(Folder):
     def assert_needs_a_folder(self, image: Path, reports: Path) -> None:
         """That the reports of several scripts want a folder that is new or empty."""
         message = (
-            f"vga-floppy: {image}: it has the answers of 3 scripts: name a folder for their"
+            f"zaklimot: {image}: it has the answers of 3 scripts: name a folder for their"
             " reports\n"
         )
         self.assertEqual(run("read", image), (2, b"", message))
         message = (
-            f"vga-floppy: {reports}: the folder has files, and none of them is to be lost: give one"
+            f"zaklimot: {reports}: the folder has files, and none of them is to be lost: give one"
             " that is new or empty\n"
         )
         self.assertEqual(run("read", image, reports), (2, b"", message))
@@ -282,17 +288,17 @@ class Images(Folder):
     def test_each_may_have_as_many_steps_as_a_script(self) -> None:
         scripts = {name: script_of(b"in 3CC\nin 3CC\n", name) for name in ("one", "two")}
         table = Table(table_for(scripts), "it")
-        with mock.patch("zaklimot_tools.floppy.table.MOST_STEPS", 2):
+        with mock.patch("zaklimot.commands.floppy.table.MOST_STEPS", 2):
             self.assertEqual([name for name, _ in table.scripts()], ["one", "two"])
-        with mock.patch("zaklimot_tools.floppy.table.MOST_STEPS", 1):
-            self.assertRaisesRegex(Trouble, "none that vga-floppy makes", table.scripts)
+        with mock.patch("zaklimot.commands.floppy.table.MOST_STEPS", 1):
+            self.assertRaisesRegex(Trouble, "none that `zaklimot floppy` makes", table.scripts)
 
     def test_a_bad_one_is_named(self) -> None:
         folder = self.folder_of_scripts(one="frame\n", two="move\n")
         hold_undone(
             self,
             run("make", folder, self.folder / "image"),
-            rf"^vga-floppy: {folder}/two.vga:1: F7 BadLine\(1\): ",
+            rf"^zaklimot: {folder}/two.vga:1: F7 BadLine\(1\): ",
         )
 
     def test_the_registers_in_which_each_service_answers(self) -> None:
@@ -325,7 +331,7 @@ class Images(Folder):
             image = image_for({name: Script(), "two": Script()}, "it")
             path = self.write("image", Machine(image).image)
             said = (
-                f"vga-floppy: {path}: a script has the name of a file outside of a folder:"
+                f"zaklimot: {path}: a script has the name of a file outside of a folder:"
                 f" '{name[:40]}'\n"
             )
             self.assertEqual(run("read", path, self.folder / "reports"), (2, b"", said))
@@ -366,7 +372,7 @@ class Images(Folder):
         ):
             self.assertEqual(
                 run("make", "-", self.folder / "image", given=script),
-                (2, b"", "vga-floppy: " + message),
+                (2, b"", "zaklimot: " + message),
             )
         self.assertEqual(list(self.folder.iterdir()), [])
 
@@ -409,8 +415,8 @@ class Left(Folder):
             self,
             partial(self.trouble, read_image),
             (
-                (b"", "it: it is no image of vga-floppy"),
-                (bytes(len(self.image)), "it: it is no image of vga-floppy"),
+                (b"", "it: it is no image of `zaklimot floppy`"),
+                (bytes(len(self.image)), "it: it is no image of `zaklimot floppy`"),
                 (self.image[:ANSWERS], "it: its answers are damaged"),
                 (
                     self.image[: ANSWERS - 1],
@@ -445,7 +451,7 @@ class Left(Folder):
             self,
             partial(self.trouble, read_image),
             (
-                (self.changed(512 * 7, 0), "it: it holds no table of steps of vga-floppy"),
+                (self.changed(512 * 7, 0), "it: it holds no table of steps of `zaklimot floppy`"),
                 (
                     self.changed(512 * 7 + 4, 2),
                     "it: its table is of version 2, and this tool reads version 1",
@@ -469,7 +475,7 @@ class Left(Folder):
             self,
             lambda lines: self.trouble(read_record, b"".join(lines)),
             (
-                ([b"nothing\n"], "it: it holds no record of vga-floppy"),
+                ([b"nothing\n"], "it: it holds no record of `zaklimot floppy`"),
                 (
                     [*lines[:at], lines[at].replace(b"CC", b"CD"), *lines[at + 1 :]],
                     f"it:{at + 2}: the line's sum is wrong: bytes were lost on their way",
@@ -502,7 +508,7 @@ class Left(Folder):
         # Of three lines of answers the first came.
         path = self.write("record", b"".join(machine(b"in 3CC\n" * 40).record[:-3]))
         message = (
-            f"vga-floppy: {path}: the record ends before the run did: 16 of 40 bytes of answers"
+            f"zaklimot: {path}: the record ends before the run did: 16 of 40 bytes of answers"
             " came; --part gives the report so far\n"
         )
         self.assertEqual(run("read", "--serial", path), (2, b"", message))
@@ -512,7 +518,7 @@ class Left(Folder):
         whole = b"".join(machine(SCRIPT).record)
         for words in ((), ("--part",)):
             self.assertEqual(run("read", "--serial", *words, "-", given=whole), (0, REPORT, ""))
-        told = "vga-floppy: standard input: its table of steps is damaged\n"
+        told = "zaklimot: standard input: its table of steps is damaged\n"
         self.assertEqual(run("read", "--serial", "-", given=whole[:200]), (2, b"", told))
 
     def test_registers_in_which_nothing_is_answered(self) -> None:
@@ -560,7 +566,7 @@ class Runs(Folder):
         self.assertEqual(path.read_bytes(), REPORT)
 
     def test_a_folder_that_is_not_there_is_told_before_the_run(self) -> None:
-        told = f"vga-floppy: {self.folder}/none: there is no such folder\n"
+        told = f"zaklimot: {self.folder}/none: there is no such folder\n"
         done = self.run_on(f"{self.folder}/none/report", path=str(self.folder))
         self.assertEqual(done, (2, b"", told))
 
@@ -572,10 +578,11 @@ class Runs(Folder):
             'ulimit -f 100 && exec "$@"',
             "sh",
             sys.executable,
-            TOOLS / "vga-floppy",
+            TOP / "zaklimot",
+            "floppy",
         )
         done = ended(*words, "run", "--on", "dosbox", "-", input="frame\n", env=environment)
-        hold_undone(self, done, r"^vga-floppy: .*/script.img: File too large\n$")
+        hold_undone(self, done, r"^zaklimot: .*/script.img: File too large\n$")
 
     def test_emulators_that_do_not_do_it(self) -> None:
         hold(
@@ -586,26 +593,26 @@ class Runs(Folder):
             (
                 (
                     r"printf 'no such\007 part\n'; exit 3",
-                    (2, b"", "vga-floppy: dosbox: it ended before the script did: no such part\n"),
+                    (2, b"", "zaklimot: dosbox: it ended before the script did: no such part\n"),
                 ),
                 (
                     "kill -SEGV $$",
                     (
                         2,
                         b"",
-                        "vga-floppy: dosbox: it ended before the script did, by SIGSEGV:"
+                        "zaklimot: dosbox: it ended before the script did, by SIGSEGV:"
                         " it said nothing\n",
                     ),
                 ),
                 (
                     None,
-                    (2, b"", "vga-floppy: there is no dosbox: Debian's package dosbox has it\n"),
+                    (2, b"", "zaklimot: there is no dosbox: Debian's package dosbox has it\n"),
                 ),
                 (
                     "exit",
                     "--bios",
                     "lgpl",
-                    (2, b"", "vga-floppy: dosbox has a video BIOS of its own\n"),
+                    (2, b"", "zaklimot: dosbox has a video BIOS of its own\n"),
                 ),
             ),
         )
@@ -615,7 +622,7 @@ class Runs(Folder):
         path = self.path_with(f"sleep 600 & echo $! > {told}")
         done = self.within(lambda seconds: self.run_on("--seconds", str(seconds), path=path), told)
         hold_undone(
-            self, done, r"^vga-floppy: dosbox: the script has not ended within \d+ seconds?\n$"
+            self, done, r"^zaklimot: dosbox: the script has not ended within \d+ seconds?\n$"
         )
         self.assert_ended(int(told.read_text()))
 
@@ -661,7 +668,7 @@ class Runs(Folder):
         told = self.folder / "child"
         path = self.path_with(f"sleep 600 & echo $! > {told}")
         environment = {**os.environ, "PATH": path, "TMPDIR": str(self.folder)}
-        words = ["vga-floppy", "run", "--on", "dosbox", self.write("script.vga", "frame\n")]
+        words = ["zaklimot", "floppy", "run", "--on", "dosbox", self.write("script.vga", "frame\n")]
         with begin(*words, env=environment) as process:
             child = self.wait_for(told, process)
             emulators = Path(f"/proc/{process.pid}/task/{process.pid}/children").read_text().split()
@@ -751,7 +758,7 @@ class Pages(Folder):
             }
             for case in (one, two, three, four)
         ]
-        results = {"command": "tools/vga-floppy run --on dosbox {script}", "rules": rules}
+        results = {"command": "zaklimot floppy run --on dosbox {script}", "rules": rules}
         status, page, said = self.write_page(self.write("results", json.dumps(results)))
         self.assertEqual((status, said), (0, ""))
         self.assertEqual(
@@ -769,13 +776,13 @@ class Pages(Folder):
             status, page, said = self.write_page(path)
             self.assertEqual(
                 (status, said),
-                (2, f"vga-emulators: {path}: it isn't what `vga-report suite --json` prints\n"),
+                (2, f"vga-emulators: {path}: it isn't what `zaklimot suite --json` prints\n"),
             )
             self.assertIn("\nold\n", page)
         path = self.write("other", '{"command": "my-harness {script}", "rules": []}')
         self.assertEqual(
             self.write_page(path)[2],
-            f"vga-emulators: {path}: its command is no `vga-floppy run --on` of an emulator\n",
+            f"vga-emulators: {path}: its command is no `zaklimot floppy run --on` of an emulator\n",
         )
         page = self.write("unmarked.md", "Text.\n")
         hold_undone(

@@ -1,5 +1,5 @@
-"""What `vga-floppy` makes of files, folders and streams at their limits: scripts of folders, images
-that are longer or shorter, pages in great numbers, and a screen that qemu dumps."""
+"""What `floppy` makes of files, folders and streams at their limits: scripts of folders, images
+that are longer or shorter, and a screen that qemu dumps."""
 
 from __future__ import annotations
 
@@ -7,13 +7,11 @@ import os
 import unittest
 from functools import partial
 from pathlib import Path
-from typing import Optional
 from unittest import mock
 
-from zaklimot_tools.core.progress import Progress
-from zaklimot_tools.explain.faults import script_of
-from zaklimot_tools.floppy import rows, running
-from zaklimot_tools.floppy.image import (
+from zaklimot.commands.explain.faults import script_of
+from zaklimot.commands.floppy import running
+from zaklimot.commands.floppy.image import (
     Run,
     has_ended,
     image_for,
@@ -21,27 +19,13 @@ from zaklimot_tools.floppy.image import (
     read_record,
     report_lines,
 )
-from zaklimot_tools.floppy.running import MACHINES, PackagedFile
-from zaklimot_tools.floppy.table import Table, table_for
-from zaklimot_tools.images import others
+from zaklimot.commands.floppy.running import MACHINES, PackagedFile
+from zaklimot.commands.floppy.table import Table, table_for
 
-from .floppy import ANSWERS, MARK, Machine, line, machine, row
-from .test_beside import BOTH, bmp
-from .tools import (
-    TOOLS,
-    Folder,
-    call,
-    ended,
-    hold,
-    hold_undone,
-    main_of,
-    patched,
-    png_rows,
-    refused,
-    run_tool,
-)
+from .floppy import ANSWERS, MARK, Machine, line, machine
+from .tools import Folder, hold, hold_undone, png_rows, refused, run_tool
 
-run = partial(run_tool, "vga-floppy")
+run = partial(run_tool, "zaklimot", "floppy")
 # qemu with its monitor, as far as a screen is dumped: it leaves an image that has run, and notes
 # what it is asked.
 QEMU = """import json, os, socket, shutil, time
@@ -101,12 +85,12 @@ class Dumped(Folder):
         hold_undone(
             self,
             run("read", image, self.folder / "reports"),
-            f"^vga-floppy: {self.folder}/reports: it is a folder\n$",
+            f"^zaklimot: {self.folder}/reports: it is a folder\n$",
         )
         scripts = {"a/one": script_of(b"in 3CC\n", "one")}
         named = self.write("named", Machine(image_for(scripts, "it")).image)
         file = self.write("file", "kept")
-        hold_undone(self, run("read", named, file), f"^vga-floppy: {file}: it is not a folder\n$")
+        hold_undone(self, run("read", named, file), f"^zaklimot: {file}: it is not a folder\n$")
         self.assertEqual(Path(file).read_text(), "kept")
         self.assertEqual(run("read", named, self.folder / "reports"), (0, b"", ""))
         self.assertEqual((self.folder / "reports" / "a" / "one.report").read_bytes(), b"1 CC\n")
@@ -145,7 +129,7 @@ class Reports(Folder):
             (scripts, f"{scripts}: the folder has files"),
         ):
             done = self.run_scripts("exit 3", place)
-            hold_undone(self, done, f"^vga-floppy: {wanted}")
+            hold_undone(self, done, f"^zaklimot: {wanted}")
         self.assertFalse((self.folder / "begun").exists())
         self.assertEqual(Path(file).read_text(), "kept")
 
@@ -212,13 +196,13 @@ class Scripts(Folder):
     def test_a_folder_without_a_list_and_one_that_lists_nothing(self) -> None:
         (self.folder / "scripts").mkdir()
         scripts = self.folder / "scripts"
-        told = f"^vga-floppy: {scripts}: it is a folder without list.txt, which `vga-report"
+        told = f"^zaklimot: {scripts}: it is a folder without list.txt, which `zaklimot suite"
         hold_undone(self, run("make", scripts, "-"), told)
         self.write("scripts/list.txt", "gone.vga -\n")
         hold_undone(
             self,
             run("make", scripts, "-"),
-            f"^vga-floppy: {scripts}/gone.vga: No such file or directory\n$",
+            f"^zaklimot: {scripts}/gone.vga: No such file or directory\n$",
         )
 
     def test_a_script_of_no_steps(self) -> None:
@@ -226,7 +210,7 @@ class Scripts(Folder):
         self.assertEqual(run("read", image), (0, b"", ""))
         # An image of no script at all has no report for standard output.
         none = self.write("none", Machine(image_for({}, "it")).image)
-        told = f"^vga-floppy: {none}: it has the answers of 0 scripts: name a folder"
+        told = f"^zaklimot: {none}: it has the answers of 0 scripts: name a folder"
         hold_undone(self, run("read", none), told)
         self.assertEqual(run("read", none, self.folder / "reports"), (0, b"", ""))
 
@@ -252,51 +236,11 @@ class Lengths(Folder):
         left = machine(b"in 3CC\nin 3CE\n").image
         for data in (left + b"more" * 9, left[: ANSWERS + 2], left):
             self.assertEqual(run("read", "-", given=data), (0, b"1 CC\n2 CE\n", ""), len(data))
-        told = "^vga-floppy: standard input: its answers are damaged\n$"
+        told = "^zaklimot: standard input: its answers are damaged\n$"
         hold_undone(self, run("read", "-", given=left[: ANSWERS + 1]), told)
         # An answer of 00 adds nothing to their sum, and may be cut off all the same.
         left = machine(b"put A0000 0\nget A0000\n").image
         hold_undone(self, run("read", "-", given=left[:ANSWERS]), told)
-
-    def test_answers_of_many_pages(self) -> None:
-        # 30,500 answers take 67 pages, whose checks take seven rows of one more.
-        script = b"version 2\nrepeat 6100\nin 3CC\nin 3CE\nin 3CE\nin 3C1\nin 3C2\nend\n"
-        wanted = b"".join(
-            b"%d %s\n" % (number, (b"CC", b"CE", b"CE", b"C1", b"C2")[(number - 1) % 5])
-            for number in range(1, 30_501)
-        )
-        booted = machine(script)
-        self.assertEqual(len(booted.pages), 68)
-        image = self.write("image", image_for({"": script_of(script, "it")}, "it"))
-        for number, page in enumerate(booted.pages):
-            self.write(f"pages/{number:03}.txt", page)
-        done = run("read", image, "--pages", self.folder / "pages")
-        self.assertTrue(done == (0, wanted, ""), done[2])
-        # Each page that is missing is named, eight of them.
-        for number in range(50, 68):
-            (self.folder / "pages" / f"{number:03}.txt").unlink()
-        places = ", ".join(f"page {number}" for number in range(50, 58))
-        told = f"the pages lack {places}, and 10 others; --part gives the report so far\n"
-        done = run("read", image, "--pages", self.folder / "pages")
-        self.assertEqual(done, (2, b"", f"vga-floppy: {self.folder}/pages: {told}"))
-        done = run("read", image, "--part", "--pages", self.folder / "pages")
-        self.assertTrue(done == (0, b"".join(wanted.splitlines(True)[: 49 * 462]), ""), done[2])
-
-    def test_how_many_pages_are_read_is_told(self) -> None:
-        booted = machine(b"in 3CC\n" * 30)
-        image = self.write("image", booted.image)
-        for pages in (["".join(f"{page}\n" for page in booted.pages)], booted.pages):
-            names = [self.write(f"{number}.txt", page) for number, page in enumerate(pages)]
-            progress = mock.create_autospec(Progress, instance=True)
-            progress.is_due.return_value = True
-            with mock.patch("zaklimot_tools.core.cli.Progress", return_value=progress):
-                words = [f"--pages={name}" for name in names]
-                done = call(main_of("vga-floppy"), "read", image, *words, self.folder / "report")
-            self.assertEqual(done, (0, "", ""))
-            told = [given.args[0] for given in progress.tell.call_args_list]
-            plural = "s" * (len(names) > 1)
-            wanted = [f"{number} of {len(names)} page{plural}" for number in range(len(names))]
-            self.assertEqual(told, wanted)
 
     def test_a_record_with_other_ends_of_lines_and_a_cut_one(self) -> None:
         lines = machine(b"in 3CC\n" * 20).record
@@ -318,11 +262,11 @@ class Lengths(Folder):
 
     def test_a_record_as_long_as_may_be_read(self) -> None:
         record = b"".join(machine(b"in 3CC\n").record)
-        with mock.patch("zaklimot_tools.floppy.command.MOST_READ", len(record)):
+        with mock.patch("zaklimot.commands.floppy.command.MOST_READ", len(record)):
             for noise, told in ((b"", (0, b"1 CC\n", "")), (b"\n", None)):
                 done = run("read", "--serial", "-", given=noise + record)
                 if told is None:
-                    hold_undone(self, done, "^vga-floppy: standard input: the record ends before")
+                    hold_undone(self, done, "^zaklimot: standard input: the record ends before")
                 else:
                     self.assertEqual(done, told)
 
@@ -383,65 +327,7 @@ class Runs(Folder):
         )
 
 
-class Texts(Folder):
-    def test_a_text_that_is_no_utf_8_is_no_text(self) -> None:
-        self.program("bin/tesseract", "#!/bin/sh\nexit 1\n")
-        path = self.write("rows.txt", "r\u00e9ponses\n".encode("latin-1"))
-        with mock.patch.dict(os.environ, PATH=f"{self.folder}/bin"):
-            with mock.patch.object(others, "pillow", lambda: None):
-                told = refused(rows.read_file, path)
-        self.assertEqual(told, f"{path}: tesseract can't read it: it said nothing")
-
-    def test_rows_of_files_that_contradict_one_another(self) -> None:
-        image = self.write("image", machine(b"in 3CC\n" * 30).image)
-        pairs = (
-            (row(0, bytes(22)), row(0, b"\1" * 22)),
-            (row(0x8001, bytes(2)), row(0x8001, b"\0\1")),
-            (row(0xFFFF, bytes(8)), row(0xFFFF, b"\1" * 8)),
-        )
-        for one, other in pairs:
-            paths = [self.write(f"{name}.txt", text) for name, text in (("b", one), ("a", other))]
-            done = run("read", image, *(f"--pages={path}" for path in paths))
-            told = f"^vga-floppy: {paths[1]}: the row has other bytes than the same row before\n$"
-            hold_undone(self, done, told)
-
-    def test_bytes_of_a_picture_that_would_be_a_text(self) -> None:
-        # A reader of text sees a row in it, and its own bytes have others.
-        dots = b"P6\n2 1\n255\n" + bytes(6) + f"\n{row(1, bytes(22))}\n".encode()
-        path = self.write("page.ppm", dots)
-        self.program("bin/tesseract", f"#!/bin/sh\necho {row(0, bytes(22))}\n")
-        with mock.patch.dict(os.environ, PATH=f"{self.folder}/bin:{os.environ['PATH']}"):
-            with mock.patch.object(others, "pillow", lambda: None):
-                found = rows.read_file(path)
-        self.assertEqual(list(found.rows), [0])
-
-    def test_lines_of_other_systems(self) -> None:
-        text = "\n".join(machine(b"in 3CC\n" * 30).pages)
-        for ending in ("\r\n", "\r", "\n"):
-            path = self.write("rows.txt", text.replace("\n", ending))
-            found = rows.read_file(path)
-            self.assertEqual((found.answers(), found.missing()), (b"\xcc" * 30, []))
-
-    def test_what_is_damaged_in_each_of_the_pictures_of_a_page(self) -> None:
-        # A row is good where one of them has it, and what the last one lacks is told once.
-        path = self.write("page", b"\0")
-        good, damaged = row(0, bytes(22)), "babab babab badab"
-        for seen, places in (
-            ((f"{good}\n{damaged}", damaged), [f"{path}:1"]),
-            ((f"{damaged}\n{damaged}", good), []),
-            ((good, damaged), []),
-        ):
-            faked = {"_pictures": lambda *_: iter(seen), "_seen": lambda text, _: text}
-            with patched(rows, faked):
-                found = rows.read_file(path)
-            self.assertEqual((list(found.rows), found.damaged), ([0], places))
-
-    def test_a_last_row_is_taken_once(self) -> None:
-        # How many answers there are is told by the page of checks, which is not there.
-        pages = rows.Pages()
-        pages.add(f"{row(0, bytes(22))}\n{row(1, bytes(range(8)))}\n", "it")
-        self.assertEqual(pages.answers(), bytes(22) + bytes(range(8)))
-
+class Answered(Folder):
     def test_answers_that_do_not_fit_the_steps(self) -> None:
         table = Table(table_for({"": script_of(b"in 3CC\ninw 3CE\n", "it")}), "it")
 
@@ -459,70 +345,3 @@ class Texts(Folder):
             data = b"".join([*record[:-1], line("E", count, total)])
             ended_otherwise = "it: the end of the record tells of other answers"
             self.assertEqual(refused(read_record, data, "it"), ended_otherwise)
-
-    def test_rows_of_a_length_that_no_page_has(self) -> None:
-        for number, length, is_one in (
-            (0, 22, True),
-            (0, 24, False),
-            (0x8001, 24, False),
-            (0xFFFF, 8, True),
-            (0xFFFF, 6, False),
-            (0xFFFF, 10, False),
-        ):
-            pages = rows.Pages()
-            told = "it:2: the row is none that a machine shows"
-            text = f"\n{row(number, bytes(length))}\n"
-            if is_one:
-                pages.add(text, "it")
-                self.assertEqual(pages.count, 1)
-            else:
-                self.assertEqual(refused(pages.add, text, "it"), told)
-        # Words that are fewer than those of a row are passed over, and three that don't fit aren't.
-        pages = rows.Pages()
-        text = "babab babab\nbabab babab badab\nno words at all\nbabab, babab babab\n"
-        pages.add(text, "it")
-        self.assertEqual((pages.count, pages.damaged), (0, ["it:2"]))
-        # Those of all files are told.
-        other = rows.Pages()
-        other.add(text, "other")
-        pages.join(other)
-        self.assertEqual(pages.damaged, ["it:2", "other:2"])
-
-
-@unittest.skipIf(BOTH is None, "no Python has numpy and Pillow: install python3-numpy, python3-pil")
-class Photographs(Folder):
-    def read(self, data: bytes, reader: Optional[str] = None) -> tuple[int, str, str]:
-        """How pages are read from an image by a Python with Pillow, and a reader of text."""
-        image = self.write("image", machine(b"in 3CC\n").image)
-        path = self.write("pages/photo.bmp", data)
-        self.program("bin/tesseract", reader or "#!/bin/sh\nexit 1\n")
-        environment = {**os.environ, "PATH": f"{self.folder}/bin:{os.environ['PATH']}"}
-        words = (str(BOTH), TOOLS / "vga-floppy", "read", image, "--pages", path)
-        return ended(*words, env=environment)
-
-    def test_photographs_that_are_too_large_or_cut_off(self) -> None:
-        for data, told in (
-            (
-                bmp([[(0, 0, 0)]], (8193, 8192)),
-                "it has 8193x8192 dots, and 67,108,864 are the most",
-            ),
-            (bmp([[(0, 0, 0)]], (8192, 8192)), "pillow can't read it: image file is truncated"),
-        ):
-            hold_undone(self, self.read(data), f"^vga-floppy: .*/photo.bmp: {told}")
-
-    def test_a_photograph_is_read_dark_on_white_and_as_it_is(self) -> None:
-        # The reader keeps what it is given, and sees no row.
-        kept = f'#!/bin/sh\n/bin/cat > "{self.folder}/seen-$(ls {self.folder} | wc -l)"\n'
-        data = bmp([[(250, 250, 250)] * 4 + [(9, 9, 9)] * 16] * 10)
-        hold_undone(self, self.read(data, kept), "the pages lack the first row of the page of che")
-        seen = sorted(self.folder.glob("seen-*"), key=lambda path: path.stat().st_mtime_ns)
-        self.assertEqual(len(seen), 3)
-        self.assertEqual(seen[2].read_bytes(), data)
-        asking = (
-            "import sys; from PIL import Image; image = Image.open(sys.argv[1]);"
-            "w, h = image.size; print(image.mode, w, h, image.getpixel((w // 10, h // 2)) < 20,"
-            " image.getpixel((w * 6 // 10, h // 2)) > 235)"
-        )
-        for path, width in zip(seen, (1800, 1400)):
-            told = ended(str(BOTH), "-c", asking, path)
-            self.assertEqual(told, (0, f"L {width} {width // 2} True True\n", ""))

@@ -34,8 +34,8 @@ from zaklimot.format import (
     read,
 )
 from zaklimot.format.table import CODES
-from zaklimot_tools.report.cases import read_cases
-from zaklimot_tools.report.places import SUITE
+from zaklimot.commands.report.cases import read_cases
+from zaklimot.commands.report.places import SUITE
 
 from .tools import TOP, hold, stream
 

@@ -24,11 +24,11 @@ from zaklimot.format import (
     parse_text,
     print_text,
 )
-from zaklimot_tools.core.processes import Limits
-from zaklimot_tools.core.trouble import Wrong
-from zaklimot_tools.dev.fuzz import command
-from zaklimot_tools.dev.fuzz.feeding import Fed, Program, check, meant_by
-from zaklimot_tools.dev.fuzz.making import Feed, block, make, spelled, step
+from zaklimot.commands.core.processes import Limits
+from zaklimot.commands.core.trouble import Wrong
+from zaklimot_dev.fuzz import command
+from zaklimot_dev.fuzz.feeding import Fed, Program, check, meant_by
+from zaklimot_dev.fuzz.making import Feed, block, make, spelled, step
 
 from .tools import Folder, begin, call, hold, hold_undone, main_of, takes_long
 

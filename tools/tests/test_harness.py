@@ -13,14 +13,14 @@ from itertools import product
 from pathlib import Path
 from unittest import mock
 
-from zaklimot_tools.core.processes import Streamed
-from zaklimot_tools.core.progress import Progress
-from zaklimot_tools.report import folders, suite
-from zaklimot_tools.report.listing import RunScript
-from zaklimot_tools.report.suite import AGREES, DIFFERS, FAILED, SKIPPED, Result, _worst
-from zaklimot_tools.report.words import parser
-from zaklimot_tools.script import launching, program
-from zaklimot_tools.script.program import (
+from zaklimot.commands.core.processes import Streamed
+from zaklimot.commands.core.progress import Progress
+from zaklimot.commands.report import folders, suite
+from zaklimot.commands.report.listing import RunScript
+from zaklimot.commands.report.suite import AGREES, DIFFERS, FAILED, SKIPPED, Result, _worst
+from zaklimot.commands.words import parser
+from zaklimot.commands.script import launching, program
+from zaklimot.commands.script.program import (
     BuiltProgram,
     built_program,
     check_ended,
@@ -46,7 +46,7 @@ class Harnesses(Folder):
     def done(self, *words: str, given: bytes = b"") -> tuple[int, str, str]:
         """Exit status, output and standard error of the tool in the folder."""
         prepare = partial(os.chdir, self.folder)
-        status, output, said = run_tool("vga-report", *words, given=given, prepare=prepare)
+        status, output, said = run_tool("zaklimot", *words, given=given, prepare=prepare)
         return status, output.decode(), said
 
     def test_cases_in_no_folder(self) -> None:
@@ -151,7 +151,7 @@ class Harnesses(Folder):
         self.write("two.txt", "1 FF\n3 ok\n")
         done = self.done("suite", f"{ADAPTER} {{script}}", "--list", "list.txt")
         told = f"{self.folder}/two.txt:2: step 2 is to come, and not '3 ok'"
-        self.assertEqual(done, (2, "", f"vga-report: {told}\n"))
+        self.assertEqual(done, (2, "", f"zaklimot: {told}\n"))
 
     def test_a_command_that_stops_before_the_first_step(self) -> None:
         self.write("one.txt", "")
@@ -161,18 +161,18 @@ class Harnesses(Folder):
 
     def test_a_list_from_standard_input(self) -> None:
         # Its names are those of the current folder.
-        words = ("scripts", "made", "--list", "-", "--except", "t")
+        words = ("suite", "--scripts", "made", "--list", "-", "--except", "t")
         done = self.done(*words, given=b"one\ntwo\nmore/three\n")
         names = ("one.vga", "more/three.vga", "list.txt")
         self.assertEqual(done, (0, "".join(f"made/{name}\n" for name in names), ""))
-        done = self.done("scripts", "none", "--list", "-", given=b"one\n\na b\n")
-        self.assertEqual(done, (2, "", "vga-report: standard input:3: no case: 'a b'\n"))
+        done = self.done("suite", "--scripts", "none", "--list", "-", given=b"one\n\na b\n")
+        self.assertEqual(done, (2, "", "zaklimot: standard input:3: no case: 'a b'\n"))
 
     def test_blanks_and_headings_of_a_list(self) -> None:
         self.write("two.fnt", "12")
         text = "#two\n\t# two\n  fonts two.fnt \n\n \t one\t\n\ttwo until 0\r\n"
         self.write("list.txt", text)
-        self.assertEqual(self.done("scripts", "made", "--list", "list.txt")[0], 0)
+        self.assertEqual(self.done("suite", "--scripts", "made", "--list", "list.txt")[0], 0)
         listed = (self.folder / "made/list.txt").read_text()
         self.assertEqual(listed, "one.vga fonts/two.fnt\ntwo.vga fonts/two.fnt\n")
         self.assertTrue((self.folder / "made/two.vga").read_text().startswith("show regs\n"))
@@ -195,7 +195,7 @@ class Harnesses(Folder):
         self.write("late.vga", "get 0\nint ax=3\n")
         self.write("late.txt", "1 E1 NotDecoded\n2" + CALLED[1:])
         self.write("list.txt", "call\nlate\n")
-        done = self.done("scripts", "made", "--list", "list.txt", "--machine")
+        done = self.done("suite", "--scripts", "made", "--list", "list.txt", "--machine")
         self.assertEqual(done, (0, "made/call.vga\nmade/list.txt\n", ""))
         self.assertEqual((self.folder / "made/call.vga").read_text(), "int ax=3\n")
 
@@ -270,30 +270,6 @@ class Programs(Folder):
                         self.assertEqual(refused(work), told)
                     else:
                         work()
-
-    def test_what_a_run_without_proofs_is_given_and_how_it_ends(self) -> None:
-        rt = self.program(
-            "bin/rt",
-            "#!/bin/sh\necho \"$*\" >> asked\necho 'vga: F7 BadLine(1)' >&2\n"
-            "echo run=ended status=1 runners=1 >&2\n",
-        )
-        crate = Path(self.write("crate/src/main.rt", "")).parents[1]
-        self.write("s.vga", "move\n")
-        self.write("s.bin", b"VGAS\x01\x0b")
-        path = f"{Path(rt).parent}{os.pathsep}{os.environ['PATH']}"
-        prepare = partial(os.chdir, self.folder)
-        with mock.patch.dict(os.environ, PATH=path), mock.patch.object(program, "CRATE", crate):
-            for words in (("s.vga",), ("s.bin", "--until", "1")):
-                given = ("run", *words, "--try", "--fonts", "f")
-                status, _, said = run_tool("vga-report", *given, prepare=prepare)
-                self.assertEqual(status, 2)
-                self.assertIn(f"vga-report: {words[0]}:1: F7 BadLine(1): ", said)
-        data = f"try --data script={self.folder}/{{}} --data fonts={self.folder}/f -- ".format
-        wanted = (
-            f"{data('s.vga')}go script --fonts fonts\n"
-            f"{data('s.bin')}run script --fonts fonts --until 1\n"
-        )
-        self.assertEqual((crate / "asked").read_text(), wanted)
 
 
 @unittest.skipIf(sys.platform == "win32", "a script is a program on POSIX")

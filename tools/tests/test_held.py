@@ -13,8 +13,8 @@ from typing import Any
 from unittest import mock
 from xml.etree import ElementTree
 
-from zaklimot_tools.steps.asking import asked_adapter
-from zaklimot_tools.steps.checking import (
+from zaklimot.commands.steps.asking import asked_adapter
+from zaklimot.commands.steps.checking import (
     BranchCounts,
     BranchName,
     Branches,
@@ -22,8 +22,8 @@ from zaklimot_tools.steps.checking import (
     _junit_text,
     ranked,
 )
-from zaklimot_tools.steps.parts import FINAL
-from zaklimot_tools.steps.reading import read_elements
+from zaklimot.commands.steps.parts import FINAL
+from zaklimot.commands.steps.reading import read_elements
 
 from .steps_adapter import FAULTS, FaultyCard
 from .stepping import COUNT, GOOD, Made, STEPS_EXAMPLES, files, steps, told
@@ -345,7 +345,7 @@ class Checking(Made):
         for number, status in SIGNALS:
             with self.subTest(number):
                 notes.unlink(missing_ok=True)
-                with begin("vga-steps", *words) as process:
+                with begin("zaklimot", "steps", *words) as process:
                     numbers = [int(word) for word in self.wait_for(notes, process).split()]
                     process.send_signal(number)
                     output, said = process.communicate(timeout=60)

@@ -11,34 +11,47 @@ import unittest
 from itertools import groupby
 from typing import Iterator
 
-from zaklimot_tools.core.version import version
-from zaklimot_tools.dev.emulators import traces, words as recorded
-from zaklimot_tools.dev.library_tests import (
+from zaklimot_dev.emulators import traces, words as recorded
+from zaklimot_dev.library_tests import (
     binding_words,
     bindings,
     command as library,
     one_file,
     words as tested,
 )
-from zaklimot_tools.dev.library_tests.compilers import I386, PORTABLE_TARGETS
-from zaklimot_tools.floppy.asked import EMULATORS
-from zaklimot_tools.floppy.running import MACHINES
+from zaklimot_dev.library_tests.compilers import I386, PORTABLE_TARGETS
+from zaklimot.commands.floppy.asked import EMULATORS
+from zaklimot.commands.floppy.running import MACHINES
 
 from .test_pages import pages
-from .tools import MAIN, NAMES, PYTHON, TOOLS, TOP, call, ended, hold_undone, main_of
+from .tools import (
+    COMMAND,
+    MAIN,
+    MODULES,
+    NAMES,
+    PYTHON,
+    TOP,
+    call,
+    ended,
+    hold_undone,
+    hold_version,
+    main_of,
+    path_of,
+)
 
 
 # What may be loaded for a help: what all tools have in common, and modules of words alone.
 LIGHT = re.compile(
-    r"^zaklimot_tools(\.(starting|core(\.(cli|files|progress|signals|trouble|version|words))?"
-    r"|(script|images|report|trace|picture|floppy|steps|dev(\.\w+)?)"
-    r"(\.(\w*words|asked|places|mode))?))?$"
+    r"^zaklimot(_dev(\.\w+)?(\.\w*words)?"
+    r"|\.commands(\.(starting|words|core(\.(cli|files|progress|signals|trouble|version|words))?"
+    r"|(script|images|report|trace|floppy|steps)(\.(\w*words|asked|places|mode))?))?"
+    r"|\.format(\.\w+)?)?$"
 )
 
 
 def words_of(name: str) -> str:
     """The module that has the words of a tool."""
-    found = MAIN.search((TOOLS / name).read_text("utf-8"))
+    found = MAIN.search(path_of(name).read_text("utf-8"))
     assert found is not None, name
     return found[1]
 
@@ -47,11 +60,22 @@ def parsers_of(name: str) -> list[argparse.ArgumentParser]:
     """The parsers of a tool's commands, or that of the tool where it has none."""
     module = importlib.import_module(words_of(name))
     made = getattr(module, "parser", None) or getattr(module, "_parser")
-    parsers: list[argparse.ArgumentParser] = [made()]
-    for action in parsers[0]._actions:
+    return list(_ends(made()))
+
+
+def _ends(parser: argparse.ArgumentParser) -> Iterator[argparse.ArgumentParser]:
+    """The parsers below one that have no commands of their own, or itself."""
+    for action in parser._actions:
         if isinstance(action, argparse._SubParsersAction):
-            parsers = list(action.choices.values())
-    return parsers
+            for below in action.choices.values():
+                yield from _ends(below)
+            return
+    yield parser
+
+
+def called(name: str) -> str:
+    """How a help calls a tool: the command of users as it is where it is installed."""
+    return name if name == COMMAND else f"tools/{name}"
 
 
 # The defaults of options that a help tells by other words; of no others a text names the value.
@@ -77,7 +101,7 @@ class Words(unittest.TestCase):
                 self.assertRegex(
                     output,
                     (
-                        rf"Example:\n  tools/{name}\b(?s:.*)\nExit status: 0 .*; 2 the work can't"
+                        rf"Example:\n  {called(name)}\b(?s:.*)\nExit status: 0 .*; 2 the work can't"
                         r" be done\.\n"
                     ),
                 )
@@ -96,7 +120,7 @@ class Words(unittest.TestCase):
                 with self.subTest(name, command=command):
                     status, told, said = call(main_of(name), command, "--help")
                     self.assertEqual((status, said), (0, ""))
-                    self.assertRegex(told, rf"\nExample:\n  tools/{name} {command} ")
+                    self.assertRegex(told, rf"\nExample:\n  {called(name)} {command} ")
                     self.assert_told(told)
 
     def assert_told(self, told: str) -> None:
@@ -116,13 +140,13 @@ class Words(unittest.TestCase):
         self.assertEqual(binding_words.CHECKS, tuple(bindings.CHECKS))
 
     def test_the_suite_tells_the_places_of_its_command(self) -> None:
-        told = call(main_of("vga-report"), "suite", "--help")[1]
+        told = call(main_of("zaklimot"), "suite", "--help")[1]
         for place in ("{script}", "{fonts}", "{until}", "{name}"):
             self.assertIn(place, told)
 
     def test_a_help_needs_none_of_what_does_the_work(self) -> None:
         told = "; print('loaded', *(name for name in sys.modules if name.startswith('zaklimot')))"
-        environment = {**os.environ, "PYTHONPATH": str(TOOLS)}
+        environment = {**os.environ, "PYTHONPATH": MODULES}
         for name in NAMES:
             module = words_of(name)
             command = f"import sys; from {module} import main; main(['--help']){told}"
@@ -141,7 +165,7 @@ class Words(unittest.TestCase):
 
     def test_a_tool_with_commands_wants_one(self) -> None:
         named = [name for name in NAMES if len(parsers_of(name)) > 1]
-        self.assertIn("vga-report", named)
+        self.assertIn("zaklimot", named)
         for name in named:
             told = "(?s)^usage: .*: error: the following arguments are required: COMMAND\n$"
             hold_undone(self, call(main_of(name)), told)
@@ -158,11 +182,11 @@ class Words(unittest.TestCase):
                     wanted = own or TOLD_OTHERWISE.get(told[1], told[1].replace(",", ""))
                     self.assertEqual(str(action.default), wanted)
                     held += 1
-        self.assertGreater(held, 50)
+        self.assertGreater(held, 40)
 
     def test_the_version_of_the_header_and_words_that_mean_nothing(self) -> None:
         for name in NAMES:
-            self.assertEqual(call(main_of(name), "--version"), (0, f"{name} {version()}\n", ""))
+            hold_version(self, name, call(main_of(name), "--version"))
             hold_undone(self, call(main_of(name), "--no-such-word"), f"{name}: error: ")
 
 
@@ -180,9 +204,7 @@ class Pages(unittest.TestCase):
         self.assertGreaterEqual(count, 100)
 
     def test_words_that_no_tool_takes_are_found(self) -> None:
-        text = (
-            "    cat r | tools/vga-report check r - > made &&\n    tools/vga-trace kinds --all t\n"
-        )
+        text = "    cat r | ./zaklimot check r - > made &&\n    ./zaklimot trace text --all t\n"
         found = [refusal_of(*tool) for line in lines_of_code(text) for tool in tools_in(line)]
         self.assertRegex(found[0], "invalid choice: 'check'")
         self.assertRegex(found[1], "unrecognized arguments: --all")
@@ -220,7 +242,8 @@ def tools_in(line: str) -> Iterator[tuple[str, list[str]]]:
     for is_between, some in groupby(words, lambda word: not {*word} - {*"|&;()"}):
         command = list(some)
         name = command[0].rpartition("/")[2]
-        if not is_between and name in NAMES:
+        # The library has the command's name, in lines for CMake.
+        if not is_between and name in NAMES and (name != COMMAND or "(" not in line):
             end = next((at for at, word in enumerate(command) if not {*word} - {*"<>"}), None)
             yield name, command[1:end]
 

@@ -4,46 +4,34 @@ long a frame of a picture that moves lasts at most."""
 from __future__ import annotations
 
 import io
-import random
 import re
 import struct
-import unittest
 import zlib
-from dataclasses import replace
 
 from zaklimot.format import Picture
-from zaklimot_tools.images.holding import held, held_size
-from zaklimot_tools.images.png import Animation, ImageSize, Shape, block_lines
-from zaklimot_tools.images.reading import Image, image_of, size_of
-from zaklimot_tools.picture.asked import Fit
-from zaklimot_tools.picture.fitting import fitted
-from zaklimot_tools.picture.mode import MODES
-from zaklimot_tools.picture.words import main
+from zaklimot.commands.images.holding import held, held_size
+from zaklimot.commands.images.png import Animation, ImageSize, Shape, block_lines
+from zaklimot.commands.images.reading import Image, image_of, size_of
 
 from .test_images import png
-from .test_picture import MANY, made_of, png_of, ppm_of
-from .tools import BLACK, RED, WHITE, Folder, call, hold, png_chunks, png_rows, ppm, refused
+from .tools import BLACK, RED, WHITE, Folder, hold, png_chunks, ppm, refused
 
 
 class Dots(Folder):
     def test_as_many_dots_as_may_be(self) -> None:
         # Those that are no more than the most are unpacked, and found to be cut off.
         def told(image: bytes) -> str:
-            path = self.write("i", image)
-            words = ("script", path, self.folder / "o", "--mode", "13", "--scale")
-            status, output, said = call(main, *words)
-            self.assertEqual((status, output), (2, ""))
-            return said.removeprefix(f"vga-picture: {path}: ")
+            return refused(image_of, image, "i", 1 << 24).removeprefix("i: ")
 
-        most = "the image has {} dots, and 16,777,216 are the most\n".format
+        most = "the image has {} dots, and 16,777,216 are the most".format
         hold(
             self,
             told,
             (
-                (png(4096, 4096, b""), "the PNG is damaged\n"),
+                (png(4096, 4096, b""), "the PNG is damaged"),
                 (png(8192, 2049, b""), most("8192x2049")),
-                (b"P6 4096 4096 255\n", "the PPM of 4096x4096 dots is damaged\n"),
-                (b"P6 1 16777217 63\n", "the header of the PPM is damaged\n"),
+                (b"P6 4096 4096 255\n", "the PPM of 4096x4096 dots is damaged"),
+                (b"P6 1 16777217 63\n", "the header of the PPM is damaged"),
                 (b"P6 3355444 5 63\n", most("3355444x5")),
             ),
         )
@@ -220,8 +208,7 @@ class Blocks(Folder):
         # Each block has two colours, of the dots above and of those below: of 4 by 3, eight columns
         # have six rows of colours. No more columns than dots, and two at least.
         red, green, blue = (63, 0, 0), (0, 63, 0), (0, 0, 32)
-        four = ppm_of([[red, green], [blue, blue]])
-        picture = Picture.of_ppm(four)
+        picture = Picture.of_dots(2, 2, bytes([*red, *green, *blue, *blue]))
         lines = list(block_lines(picture, 80, 20))
         colours = [re.findall(r"38;2;([\d;]+);48;2;([\d;]+)m", line) for line in lines]
         self.assertEqual(colours, [[("255;0;0", "0;0;130"), ("0;255;0", "0;0;130")]])
@@ -231,96 +218,7 @@ class Blocks(Folder):
             shown = block_lines(wide, columns, high)
             self.assertEqual([line.count("\u2580") for line in shown], widths)
         # Of several dots in a block the mean.
-        mean = Picture.of_ppm(ppm_of([[red, green, red, green]] * 2))
+        mean = Picture.of_dots(4, 2, bytes([*red, *green] * 4))
         (line,) = block_lines(mean, 2, 20)
         # Blocks of the same colours that follow one another name them once.
         self.assertEqual(line, "\x1b[38;2;127;127;0;48;2;127;127;0m\u2580\u2580\x1b[0m")
-
-
-class Colours(Folder):
-    def rows(self, image: bytes, *words: str) -> list[bytes]:
-        """The rows of the picture that is to be drawn of an image."""
-        path = self.folder / "p.png"
-        made_of(image, "--picture", str(path), *words)
-        return png_rows(path.read_bytes())[2]
-
-    def test_an_ordered_dither_of_eight_bits_is_no_darker(self) -> None:
-        # Each grey ends in 3, which its six high bits would lose.
-        chance = random.Random(2)
-        greys = [bytes([chance.randrange(2, 26) * 4 + 3]) * 3 for _ in range(320)]
-        image = png(320, 200, (b"\0" + b"".join(greys)) * 200)
-        mean = sum(grey[0] for grey in greys) / 320
-        rows = self.rows(image, "--mode", "0D", "--dither", "ordered")
-        dots = b"".join(rows)
-        drawn = sum(dots) / len(dots)
-        self.assertLess(abs(mean - drawn), 1)
-
-    def test_as_many_colours_as_the_mode_has_are_not_dithered(self) -> None:
-        # Their low bits would make the nearest six bits others than the six high ones.
-        shades = [(b"\0" + bytes([value * 16 + 3]) * 960) * 12 for value in range(16)]
-        image = png(320, 200, b"".join(shades) + (b"\0" + b"\x03" * 960) * 8)
-        nearest = made_of(image, "--mode", "0D", "--nearest")
-        self.assertIn("16 colours;", nearest[0])
-        for way in ("ordered", "floyd"):
-            self.assertEqual(made_of(image, "--mode", "0D", "--dither", way), nearest, way)
-
-    def test_entries_of_a_palette_that_are_clear(self) -> None:
-        # As many as the palette has, and as many as a palette may have at most.
-        ground, palette = b"\xff\xff\xff", bytes(256) + b"\xff" * 512
-        mixed = bytes(3) + ground + b"\xcc\xcc\xcc"
-        for opaque, wanted in (
-            (b"\xff\0\x33", mixed),
-            (b"\xff\0\x33".ljust(256, b"\0"), mixed),
-            (b"\0", ground + bytes(6)),
-        ):
-            data = png(3, 1, b"\0\0\1\2", colour=3, palette=palette, clear=opaque)
-            self.assertEqual(image_of(data, "i", ground=ground).rows, (wanted,))
-
-    def test_six_bits_are_dithered_as_they_are(self) -> None:
-        for words in ("--dither ordered", "--nearest"):
-            given = ("--mode", "0D", *words.split())
-            self.assertEqual(made_of(ppm_of(MANY), *given), made_of(png_of(MANY), *given), words)
-
-
-class Fitting(unittest.TestCase):
-    """An image that keeps its shape between bars."""
-
-    def told(self, width: int, height: int) -> tuple[str, list[str]]:
-        """What is told of a red image on a screen of 8 by 6 dots, and its rows, in which a bar's
-        dots are points."""
-        image = Image(width, height, (b"\xff\0\0" * width,) * height, 255)
-        mode = replace(MODES["13"], width=8, height=6)
-        bars = b"\0\xff\x80"
-        made = fitted(image, mode, Fit.FIT, bars, "i")
-        dots = ([row[at : at + 3] for at in range(0, len(row), 3)] for row in made.image.rows)
-        return made.told, ["".join(".#"[dot != bars] for dot in row) for row in dots]
-
-    def test_bars_stand_on_both_sides(self) -> None:
-        end = "with bars of 00FF80 to 8x6"
-        hold(
-            self,
-            self.told,
-            (
-                (2, 6, (f"2x6 stretched to 2x6, {end}", ["...##..."] * 6)),
-                (3, 6, (f"3x6 stretched to 3x6, {end}", ["..###..."] * 6)),
-                (
-                    8,
-                    3,
-                    (
-                        f"8x3 stretched to 8x3, {end}",
-                        ["........", *["########"] * 3, *["........"] * 2],
-                    ),
-                ),
-                (4, 3, ("4x3 stretched to 8x6", ["########"] * 6)),
-                # A dot at least is there.
-                (1, 100, (f"1x100 stretched to 1x6, {end}", ["...#...."] * 6)),
-                (
-                    100,
-                    1,
-                    (
-                        f"100x1 stretched to 8x1, {end}",
-                        [*["........"] * 2, "########", *["........"] * 3],
-                    ),
-                ),
-            ),
-        )

@@ -4,33 +4,18 @@ specimens of a font."""
 from __future__ import annotations
 
 import io
-import os
-import shutil
 import struct
-import sys
 import unittest
 import zlib
 from typing import Optional
 
 from zaklimot.format import Picture, parse_text
-from zaklimot_tools.explain.clocks import USUAL, Registers
-from zaklimot_tools.images.png import MARK, Shape, chunk, write_png
-from zaklimot_tools.images.reading import image_of
+from zaklimot.commands.explain.clocks import USUAL, Registers
+from zaklimot.commands.images.png import MARK, Shape, chunk, write_png
+from zaklimot.commands.images.reading import image_of
 
 from .test_command import PICTURE, run
-from .tools import (
-    BLACK,
-    RED,
-    TOP,
-    WHITE,
-    Folder,
-    ended,
-    hold,
-    png_chunks,
-    png_rows,
-    ppm,
-    refused,
-)
+from .tools import BLACK, RED, TOP, WHITE, Folder, hold, png_chunks, png_rows, ppm
 
 
 GREY = b"\x15\x15\x15"
@@ -162,7 +147,7 @@ class ComparePicture(Folder):
         """The status, and what is said of an image beside a picture, without the names."""
         path = self.report("r", "ok", picture)
         shot = self.write("shot", image)
-        status, output, message = run("compare-picture", path, "2", shot, *words)
+        status, output, message = run("compare", path, shot, "--step", "2", *words)
         self.assertEqual(message, "")
         return status, output.decode().replace(f"step 2 and {shot} ", "")
 
@@ -271,7 +256,7 @@ class Animations(Folder):
             path = self.report("r", *["ok"] * (number - 1), PICTURE)
             done = run("pictures", path, "--apng", moving, "--script", script)
             told = f"it is not the report's script: step {number} has a picture, and is no frame of"
-            self.assertEqual(done, (2, b"", f"vga-report: {script}: {told} it\n"))
+            self.assertEqual(done, (2, b"", f"zaklimot: {script}: {told} it\n"))
             self.assertFalse(moving.exists())
 
     def test_the_order_of_the_frames(self) -> None:
@@ -467,110 +452,3 @@ class Images(unittest.TestCase):
                 (3, 720, 400, (2160, 1620)),
             ],
         )
-
-    def test_what_is_transparent_shows_the_ground(self) -> None:
-        # A ground of 100, 200 and 0; half of FF and half of it are B2, E4 and 80.
-        ground, half, white = b"\x64\xc8\0", b"\xb2\xe4\x80", b"\xff\xff\xff"
-        palette = b"\xff\xff\xff\1\2\3"
-        for data, wanted in (
-            (
-                png(
-                    3,
-                    1,
-                    b"\0" + b"".join(white + bytes([much]) for much in (0, 128, 255)),
-                    colour=6,
-                ),
-                ground + half + white,
-            ),
-            (png(3, 1, b"\0\xff\0\xff\x80\xff\xff", colour=4), ground + half + white),
-            (png(2, 1, b"\0\xff\xff\0\0\0\0\xff\xff", depth=16, colour=4), ground + bytes(3)),
-            # Entries behind those that are listed are opaque.
-            (
-                png(2, 1, b"\0\0\1", colour=3, palette=palette, clear=b"\x80"),
-                half + b"\1\2\3",
-            ),
-            # One grey or one colour is clear: in two bytes the whole of it, in few bits as listed.
-            (png(2, 1, b"\0\x10", depth=4, colour=0, clear=b"\0\1"), ground + bytes(3)),
-            (png(2, 1, b"\0\x80\x81", colour=0, clear=b"\0\x80"), ground + b"\x81" * 3),
-            (
-                png(2, 1, b"\0\1\2\3\1\2\4", clear=b"\0\1\0\2\0\3"),
-                ground + b"\1\2\4",
-            ),
-            (
-                png(2, 1, b"\0\1\2\1\3", depth=16, colour=0, clear=b"\1\3"),
-                b"\1\1\1" + ground,
-            ),
-            (png(1, 1, b"\0\1\2\3"), b"\1\2\3"),
-        ):
-            with self.subTest(data[25:]):
-                self.assertEqual(image_of(data, "i", ground=ground).rows, (wanted,))
-
-    def test_transparency_without_a_ground_or_damaged(self) -> None:
-        data = png(1, 1, b"\0\1\2\3\0", colour=6)
-        self.assertEqual(image_of(data, "i").rows, (b"\1\2\3",))
-        palette, ground = bytes(6), bytes(3)
-        for colour, clear in ((0, b"\1"), (2, b"\0\1"), (3, bytes(257)), (6, bytes(9))):
-            data = png(1, 1, bytes(5), colour=colour, palette=palette, clear=clear)
-            told = refused(image_of, data[:-4] if colour == 6 else data, "i", 9, ground)
-            self.assertEqual(told, "i: the PNG is damaged")
-
-    def test_forms_of_png(self) -> None:
-        hold(self, lambda data: list(image_of(data, "i").rows), FORMS_OF_PNG)
-
-
-@unittest.skipIf(os.name != "posix", "a script is a program on POSIX")
-class Specimens(Folder):
-    def run_preview(
-        self, wrong: str = "False", more: str = "", frame: str = 'step == "frame"'
-    ) -> tuple[int, str, str]:
-        """How it ends with a program of which something is wrong, more, or otherwise a frame."""
-        program = self.program("program", GOOD.format(wrong=wrong, frame=frame) + more)
-        out = self.folder / "out"
-        out.mkdir(exist_ok=True)
-        return ended(sys.executable, PREVIEW, program, "--out", out)
-
-    def test_each_height(self) -> None:
-        names = "specimen-8.png\nspecimen-14.png\nspecimen-16.png\n"
-        self.assertEqual(self.run_preview(), (0, names, ""))
-        self.assertEqual(sorted(os.listdir(self.folder / "out")), sorted(names.split()))
-
-    def test_a_refused_call_leaves_the_file(self) -> None:
-        self.run_preview()
-        old = (self.folder / "out" / "specimen-8.png").stat()
-        said = "preview.py: specimen-8.png is not written: step 2: 2 E4 BadFunction\n"
-        self.assertEqual(
-            self.run_preview("step == 'int ax=1112'"),
-            (1, "specimen-14.png\nspecimen-16.png\n", said),
-        )
-        self.assertEqual((self.folder / "out" / "specimen-8.png").stat(), old)
-
-    def test_a_program_that_fails_or_gives_no_picture(self) -> None:
-        for otherwise, why in (
-            ({"more": "sys.exit(3)\n"}, "the program ended with status 3"),
-            ({"frame": "False"}, "step 3810 has no picture"),
-        ):
-            status, output, said = self.run_preview(**otherwise)
-            self.assertEqual((status, output), (1, ""))
-            self.assertIn(f"preview.py: specimen-8.png is not written: {why}\n", said)
-
-    def test_a_folder_that_is_not_there(self) -> None:
-        away = self.folder / "away"
-        program = self.program("program", GOOD.format(wrong="False", frame='step == "frame"'))
-        told = f"preview.py: {away}: there is no such folder\n"
-        self.assertEqual(ended(sys.executable, PREVIEW, program, "--out", away), (2, "", told))
-        self.assertFalse(away.exists())
-
-    def test_the_art_is_no_output(self) -> None:
-        fonts = self.folder / "fonts"
-        shutil.copytree(PREVIEW.parent, fonts)
-        art = (fonts / "glyphs-8.txt").read_bytes()
-        told = f"make_font.py: {fonts}/glyphs-8.txt: it is read, so it isn't written\n"
-        self.assertEqual(
-            ended(sys.executable, fonts / "make_font.py", fonts / "glyphs-8.txt"), (1, "", told)
-        )
-        self.assertEqual((fonts / "glyphs-8.txt").read_bytes(), art)
-
-    def test_the_font_is_made_again(self) -> None:
-        made = self.folder / "made.fnt"
-        self.assertEqual(ended(sys.executable, PREVIEW.parent / "make_font.py", made)[0], 0)
-        self.assertEqual(made.read_bytes(), (PREVIEW.parent / "zaklimot.fnt").read_bytes())

@@ -16,9 +16,9 @@ from hashlib import sha256
 from pathlib import Path
 from unittest import mock
 
-from zaklimot_tools.report.debugging import PAGE
-from zaklimot_tools.trace import converting, inpage, keeper, replaying
-from zaklimot_tools.trace.asked import SPEEDS, USUAL_SPEED, Deed
+from zaklimot.commands.report.debugging import PAGE
+from zaklimot.commands.trace import converting, inpage, keeper, replaying
+from zaklimot.commands.trace.asked import SPEEDS, USUAL_SPEED, Deed
 
 from .tools import (
     PROGRAM as TESTED,
@@ -33,7 +33,7 @@ from .tools import (
 )
 
 
-run = partial(run_tool, "vga-trace")
+run = partial(run_tool, "zaklimot", "trace")
 HAS_NODE = shutil.which("node") is not None
 # Mode 13; four bytes of it; a read of memory, of a port, and of input status 1; a cycle that is
 # refused; then letters of keys go into the memory that is shown, again and again.
@@ -201,7 +201,7 @@ class Recorded(Folder):
     def test_what_ends_by_itself_has_a_screen_too(self) -> None:
         status, lines, said = self.record(self.write("a.com", ENDING))
         self.assertEqual(
-            (status, said), (0, "vga-trace: the machine stopped after 0.0 seconds: it ended\n")
+            (status, said), (0, "zaklimot: the machine stopped after 0.0 seconds: it ended\n")
         )
         self.assertRegex(lines[-1], r"^screen 1 at 0\.0 s, after cycle 2: equal, 720x400")
         # The frame that was under way is drawn to its end.
@@ -216,7 +216,7 @@ class Recorded(Folder):
             archive.writestr("b.com", ENDING)
         both = str(self.folder / "two.zip")
         told = (
-            rf"^vga-trace: {re.escape(both)}: --start names what runs of two\.zip: a\.com,"
+            rf"^zaklimot: {re.escape(both)}: --start names what runs of two\.zip: a\.com,"
             r" b\.com\n$"
         )
         hold_undone(self, run("record", self.folder / "into", "--in-page", both), told)
@@ -246,17 +246,17 @@ class Recorded(Folder):
         # One of more than 64 KiB is refused before anything runs.
         long = self.write("long.rom", ROM.ljust(65537, b"\0"))
         done = run("record", self.folder / "two", "--in-page", file, "--rom", long)
-        hold_undone(self, done, f"^vga-trace: {re.escape(long)}: it has more than 65,536 bytes")
+        hold_undone(self, done, f"^zaklimot: {re.escape(long)}: it has more than 65,536 bytes")
         self.assertFalse((self.folder / "two").exists())
 
     def test_one_that_is_too_long(self) -> None:
         file = self.write("a.com", MANY)
         with mock.patch.object(keeper, "MOST_KEPT", 10):
             done = run("record", self.folder / "into", "--in-page", file, "--seconds", "3600")
-        again = f"`vga-trace record {self.folder / 'into'} --again` judges it"
-        told = f"vga-trace: {self.folder / 'into'}: it has what was recorded: {again}\n"
+        again = f"`zaklimot trace record {self.folder / 'into'} --again` judges it"
+        told = f"zaklimot: {self.folder / 'into'}: it has what was recorded: {again}\n"
         full = "its trace has 10 bytes, as they are packed: --seconds ends the machine sooner"
-        self.assertEqual(done, (2, b"", f"{told}vga-trace: node: {full}\n"))
+        self.assertEqual(done, (2, b"", f"{told}zaklimot: node: {full}\n"))
         left = {path.name for path in (self.folder / "into").iterdir()}
         self.assertEqual(left, {"recording.json", "trace.gz"})
         self.assertIn(" int 0003 ", self.trace())
@@ -339,7 +339,9 @@ class Recorded(Folder):
         file = self.write("a.com", bytes.fromhex("EBFE"))
         into = self.folder / "into"
         for number in (signal.SIGINT, signal.SIGTERM):
-            process = begin("vga-trace", "record", into, "--in-page", file, "--seconds", "3600")
+            process = begin(
+                "zaklimot", "trace", "record", into, "--in-page", file, "--seconds", "3600"
+            )
             nodes: set[int] = set()
 
             def has_begun() -> bool:

@@ -8,9 +8,9 @@ from pathlib import Path
 from typing import Any, Optional
 from unittest import mock
 
-from zaklimot_tools.core.version import HEADER, version
-from zaklimot_tools.dev.library import command, making
-from zaklimot_tools.dev.library.making import AARCH64, MOVING, Place
+from zaklimot.commands.core.version import HEADER, version
+from zaklimot_dev.library import command, making
+from zaklimot_dev.library.making import AARCH64, MOVING, Place
 
 from .tools import Folder, call, hold, hold_undone, main_of, patched
 

@@ -13,10 +13,10 @@ from pathlib import Path
 from typing import Any
 from unittest import mock
 
-from zaklimot_tools import TOP
-from zaklimot_tools.core.processes import Done
-from zaklimot_tools.core.trouble import Trouble, Wrong
-from zaklimot_tools.core.version import (
+from zaklimot.commands import TOP
+from zaklimot.commands.core.processes import Done
+from zaklimot.commands.core.trouble import Trouble, Wrong
+from zaklimot.commands.core.version import (
     HEADER,
     Version,
     calls_of,
@@ -24,14 +24,14 @@ from zaklimot_tools.core.version import (
     version_of,
     without_comments,
 )
-from zaklimot_tools.dev.library import making
-from zaklimot_tools.dev.library.making import AARCH64, MOVING, TARGETS, X86_64, Place, described
-from zaklimot_tools.dev.library_tests import bindings, checks, compilers, javascript, portable
-from zaklimot_tools.dev.library_tests.compilers import run
-from zaklimot_tools.dev.release import command as release
-from zaklimot_tools.report.cases import read_cases
-from zaklimot_tools.report.places import SUITE
-from zaklimot_tools.script import crates
+from zaklimot_dev.library import making
+from zaklimot_dev.library.making import AARCH64, MOVING, TARGETS, X86_64, Place, described
+from zaklimot_dev.library_tests import bindings, checks, compilers, javascript, portable
+from zaklimot_dev.library_tests.compilers import run
+from zaklimot_dev.release import command as release
+from zaklimot.commands.report.cases import read_cases
+from zaklimot.commands.report.places import SUITE
+from zaklimot.commands.script import crates
 
 from .tools import Folder, call, ended, hold, hold_undone, main_of, patched, refused
 

@@ -6,11 +6,9 @@ from __future__ import annotations
 import unittest
 from pathlib import Path
 
-from zaklimot_tools.script.words import FONTS
-from zaklimot_tools.trace.cells import code_page, look_of, text_of
-from zaklimot_tools.trace.colourfiles import plane_pictures, starts_of_pages
-from zaklimot_tools.trace.finding import found_in
-from zaklimot_tools.trace.state import State
+from zaklimot.commands.trace.cells import code_page, look_of, text_of
+from zaklimot.commands.trace.finding import found_in
+from zaklimot.commands.trace.state import State
 
 from .test_seeing import Seen
 from .tools import PROGRAM, hold, hold_undone, png_rows, run_tool, takes_long
@@ -175,7 +173,7 @@ class Moments(Seen):
             words = ("--picture", str(number))
             self.assertEqual(self.rows(*words), wanted)
             out = self.folder / "one.png"
-            self.assertEqual(self.done("screen", self.moving, out, *words), f"{out}\n")
+            self.assertEqual(self.done("pictures", self.moving, "--png", out, *words), f"{out}\n")
             self.assertEqual(png_rows(out.read_bytes()), png_rows(Path(name).read_bytes()), number)
         told = "it has 4 pictures, and no picture 5"
         hold_undone(self, self.run_command("text", self.moving, "--picture", "5"), told)
@@ -240,36 +238,6 @@ class Rows(unittest.TestCase):
         self.assertEqual(rows[:3], [40 * "0", 40 * "0", 40 * "1"])
 
 
-class Planes(unittest.TestCase):
-    def test_the_mask_counts_in_256_colours(self) -> None:
-        state = State()
-        state.gfx.registers[5], state.gfx.registers[6] = 0x40, 0x05
-        state.dac.components[3 * 5 : 3 * 6] = [1, 2, 3]
-        state.memory.words[0] = 0x15
-        for mask, wanted in ((0x0F, b"\1\2\3"), (0xFF, b"\0\0\0")):
-            state.dac.mask = mask
-            self.assertEqual(next(plane_pictures(state)).row(0)[:3], wanted)
-
-    def test_rows_where_no_offset_is_set(self) -> None:
-        state = State()
-        state.gfx.registers[6] = 0x05
-        sizes = [(one.width, one.height) for one in plane_pictures(state)]
-        self.assertEqual(sizes, 4 * [(8 * 80, -(-65536 // 80))])
-
-    def test_so_many_pages_at_most(self) -> None:
-        # A row of text of 40 columns, of which memory has 256.
-        state = State()
-        state.gfx.registers[6] = 0x0E
-        for index, value in {0x06: 0xFF, 0x07: 0x01, 0x09: 0x4F, 0x12: 0x0F, 0x13: 20}.items():
-            state.crtc.registers[index] = value
-        starts = list(starts_of_pages(state))
-        self.assertEqual(len(starts), 64)
-        self.assertEqual({after - at for at, after in zip(starts, starts[1:])}, {64})
-        # The one that is shown is among them.
-        state.crtc.registers[0x0C] = 0x30
-        self.assertEqual(list(starts_of_pages(state)), [*starts, 0x3000])
-
-
 class Finding(Seen):
     def test_where_a_text_stands(self) -> None:
         hold(
@@ -296,12 +264,16 @@ class Finding(Seen):
         two = "   0.040    0       2  \u0410 \u0410"
         for most, wanted in ((1, [head, one, "1 more"]), (2, [head, one, two])):
             words = ("--most", str(most), "--code-page", "cp866")
-            self.assertEqual(self.done("find", trace, "\u0410", *words).splitlines(), wanted)
+            self.assertEqual(
+                self.done("text", trace, "--find", "\u0410", *words).splitlines(), wanted
+            )
 
     def test_places_on_one_screen_are_told_from_the_top_to_the_bottom(self) -> None:
         places = ("80A0", "8008", "8000")
         writes = "".join(f"1 w m B{place} 0741 2\n" for place in places)
-        lines = self.done("find", self.write("trace", f"0 int 3 0 0 0\n{writes}"), "A").splitlines()
+        lines = self.done(
+            "text", self.write("trace", f"0 int 3 0 0 0\n{writes}"), "--find", "A"
+        ).splitlines()
         found = [tuple(map(int, line.split()[1:3])) for line in lines[1:]]
         self.assertEqual(found, [(0, 0), (0, 4), (1, 0)])
 
@@ -310,113 +282,14 @@ class Finding(Seen):
 class Files(Seen):
     def bytes_of(self, name: str, *words: str) -> bytes:
         """What a command writes to standard output."""
-        status, data, said = run_tool("vga-trace", name, *words, "--vga", PROGRAM)
+        status, data, said = run_tool("zaklimot", "trace", name, *words, "--vga", PROGRAM)
         self.assertEqual((status, said), (0, ""))
         return data
 
-    def bdf(self, *words: str) -> list[str]:
-        """The lines of a font as BDF."""
-        out = self.folder / "out.BDF"
-        self.assertEqual(self.done("font", words[0], out, *words[1:]), "")
-        return out.read_text("ascii").splitlines()
-
-    def test_the_usual_font_is_that_of_most_characters(self) -> None:
-        trace = self.write("two", TWO_FONTS)
-        for words, wanted in (((), 0xA2), (("--map", "1"), 0xA1), (("--map", "2"), 0xA2)):
-            data = self.bytes_of("font", trace, "-", *words)
-            self.assertEqual(data[32 + 16 * 0x41 + 1], wanted, words)
-        self.assertIn("-zaklimot-map2-medium-r-normal--16-160-", self.bdf(trace)[1])
-
-    def test_as_many_lines_as_are_shown(self) -> None:
-        # Text of 50 rows has eight lines to a character, and that of interrupt 10, 1111, fourteen.
-        for call, height, glyphs in (("1112", 8, 0), ("1111", 14, 256 * 8)):
-            trace = self.write("trace", f"0 int 3 0 0 0\n1 int {call} 0 0 0\n")
-            data = self.bytes_of("font", trace, "-")
-            self.assertEqual((data[20], data[24], data[28]), (height, height, 8))
-            shipped = FONTS.read_bytes()[glyphs:][: 256 * height]
-            self.assertEqual(data[32 : 32 + 256 * height], shipped)
-            more = self.bytes_of("font", trace, "-", "--height", "32")
-            for code in (0, 0x41, 255):
-                glyph = more[32 + 32 * code :][:32]
-                self.assertEqual(glyph[:height], data[32 + height * code :][:height])
-            self.assertEqual(more[24], 32)
-        tallest = self.write("trace", "0 int 3 0 0 0\n1 w p 3D4 1F09 2\n")
-        asked = self.bytes_of("font", tallest, "-", "--height", "32")
-        self.assertEqual(self.bytes_of("font", tallest, "-"), asked)
-
-    def test_the_head_of_a_font(self) -> None:
-        trace = self.write("trace", "0 int 3 0 0 0\n")
-        lines = self.bdf(trace, "--height", "10")
-        self.assertEqual(lines[: lines.index("STARTCHAR U+0020")], HEAD_OF_TEN)
-        # Two lines of ten hang below the line on which letters stand.
-        at = lines.index("STARTCHAR U+0041")
-        metrics = ["ENCODING 65", "SWIDTH 800 0", "DWIDTH 8 0", "BBX 8 10 0 -2", "BITMAP"]
-        self.assertEqual(lines[at + 1 : at + 6], metrics)
-        self.assertEqual(lines[at + 16 : at + 18], ["ENDCHAR", "STARTCHAR U+0042"])
-
-    def test_glyphs_without_letters(self) -> None:
-        # Windows' code page has none of 81, and its 80 is the euro.
-        trace = self.write("trace", "0 int 3 0 0 0\n")
-        words = ("--code-page", "cp1252")
-        names = self.bytes_of("font", trace, "-", *words)[32 + 4096 :].split(b"\xff")
-        self.assertEqual((names[0x80].decode(), names[0x81], len(names)), ("\u20ac", b"", 257))
-        lines = self.bdf(trace, *words)
-        self.assertIn("ENCODING 8364", lines)
-        self.assertNotIn("ENCODING 65533", lines)
-        known = sum(bool(name) for name in names)
-        self.assertIn(f"CHARS {known}", lines)
-        self.assertEqual(lines.count("ENDCHAR"), known)
-
-    def test_the_front_of_a_palette(self) -> None:
-        lines = self.bytes_of("palette", self.calls, "-", "--cycle", "1").decode().splitlines()
-        front = ["GIMP Palette", f"Name: {self.calls}", "Columns: 16", "#", "  0   0   0\tDAC 00"]
-        self.assertEqual(lines[:5], front)
-        out = self.folder / "out.PAL"
-        self.assertEqual(self.done("palette", self.calls, out, "--cycle", "1"), "")
-        self.assertEqual(out.read_bytes()[:19], b"JASC-PAL\r\n0100\r\n256")
-
-    def test_planes_of_sixteen_colours(self) -> None:
-        # Rows of 40 bytes: 1638 whole ones, and 16 bytes.
-        words = "0 int 000D 0 0 0\n1 w p 3C4 0402 2\n2 w m A0029 A0 1\n"
-        trace = self.write("trace", words)
-        for scale, (width, height) in ((1, (320, 1639)), (2, (640, 3278))):
-            folder = self.folder / f"planes{scale}"
-            shown = ("--planes", str(folder), "--scale", str(scale), "--aspect")
-            told = self.done("screen", trace, *shown).splitlines()
-            self.assertEqual(told, [f"{folder}/plane-{number}.png" for number in range(4)])
-            planes = [png_rows(Path(name).read_bytes()) for name in told]
-            self.assertEqual([one[:2] for one in planes], 4 * [(width, height)])
-            row = bytes(24) + b"\xff\xff\xff\0\0\0\xff\xff\xff"
-            self.assertEqual(planes[2][2][1][:33] if scale == 1 else row, row)
-            self.assertEqual([one for one in planes if any(map(any, one[2]))], planes[2:3])
-
-    def test_the_page_that_is_shown_is_one_wherever_it_begins(self) -> None:
-        words = "0 int 3 0 0 0\n1 int 0100 0 2000 0\n2 w p 3D4 010C 2\n2 w p 3D4 070D 2\n"
-        trace = self.write("moved", words + "3 w m B8210 0741 2\n")
-        out, pages = self.folder / "out.png", self.folder / "pages"
-        told = self.done("screen", trace, out, "--pages", pages, "--scale", "2")
-        self.assertIn("page-0107.png\n", told)
-        shown = png_rows(out.read_bytes())
-        self.assertEqual(shown[:2], (1440, 800))
-        self.assertEqual(png_rows((pages / "page-0107.png").read_bytes()), shown)
-        self.assertNotEqual(png_rows((pages / "page-0000.png").read_bytes()), shown)
-
-    def test_a_picture_that_a_page_or_a_plane_would_write_over(self) -> None:
-        folder = self.folder / "all"
-        folder.mkdir()
-        for name, option in (("page-0000.png", "--pages"), ("plane-3.png", "--planes")):
-            done = self.run_command("screen", self.calls, folder / name, option, folder)
-            told = f"{folder}/{name}: a picture of {folder} would have this name$"
-            hold_undone(self, done, told)
-        # Neither has a picture of another name.
-        words = ("--planes", folder, "--at", "1.5")
-        told = self.done("screen", self.calls, folder / "plane-4.png", *words)
-        self.assertEqual(told.count("\n"), 5)
-
     def test_a_picture_on_standard_output(self) -> None:
         out = self.folder / "out.png"
-        self.done("screen", self.calls, out, "--at", "1.5", "--scale", "2")
-        data = self.bytes_of("screen", self.calls, "-", "--at", "1.5", "--scale", "2")
+        self.done("pictures", self.calls, "--png", out, "--at", "1.5", "--scale", "2")
+        data = self.bytes_of("pictures", self.calls, "--png", "-", "--at", "1.5", "--scale", "2")
         self.assertEqual(data, out.read_bytes())
         self.assertEqual(png_rows(data)[:2], (1440, 800))
 
@@ -425,5 +298,6 @@ class Files(Seen):
         text = "0+0 int 3 0 0 0\n1+90000 w p 3C4 0101 2\n2+9 w m B8000 41 1\n"
         trace = self.write("ragged", text)
         told = "ragged: the frame has no picture: its rows differ in width"
-        hold_undone(self, self.run_command("screen", trace, self.folder / "out.png"), told)
+        words = (trace, "--png", self.folder / "out.png")
+        hold_undone(self, self.run_command("pictures", *words), told)
         self.assertFalse((self.folder / "out.png").exists())

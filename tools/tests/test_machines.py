@@ -1,16 +1,14 @@
-"""Scripts of elements for machines, which read the state by cycles: which elements have one, their
-names, and the answers that they expect. And what is told where two elements differ."""
+"""Scripts of elements that read the state by cycles, and the answers that they expect. And what is
+told where two elements differ."""
 
 from __future__ import annotations
 
-import json
-import os
 import unittest
 from typing import Any
 from xml.etree import ElementTree
 
 from zaklimot.format import REGISTERS
-from zaklimot_tools.steps.checking import (
+from zaklimot.commands.steps.checking import (
     BranchCounts,
     BranchName,
     Branches,
@@ -20,12 +18,12 @@ from zaklimot_tools.steps.checking import (
     ranked,
     worst,
 )
-from zaklimot_tools.steps.comparing import differences
-from zaklimot_tools.steps.kinds import KINDS
-from zaklimot_tools.steps.parts import BDA, BEAM, FINAL, INITIAL, Element
-from zaklimot_tools.steps.readback import readback_lines
-from zaklimot_tools.steps.reading import fault_of, read_elements
-from zaklimot_tools.steps.rules import RULES
+from zaklimot.commands.steps.comparing import differences
+from zaklimot.commands.steps.kinds import KINDS
+from zaklimot.commands.steps.parts import BDA, BEAM, FINAL, INITIAL, Element
+from zaklimot.commands.steps.readback import readback_lines
+from zaklimot.commands.steps.reading import fault_of, read_elements
+from zaklimot.commands.steps.rules import RULES
 
 from .stepping import GOOD, STEPS_EXAMPLES, steps
 from .tools import Folder, hold
@@ -71,63 +69,13 @@ def element(name: str, **more: Any) -> Element:
     return {**GOOD, "name": name, **more}
 
 
-class Machines(Folder):
-    def elements(self, *given: Element) -> str:
-        """A file of elements."""
-        lines = ",\n".join(json.dumps(one, separators=(",", ":")) for one in given)
-        return self.write("some.json", f"[\n{lines}\n]\n")
-
+class Read(Folder):
     def test_what_is_0_is_expected_too(self) -> None:
         lines = list(readback_lines({**GOOD, FINAL: STATE}))
         self.assertEqual(lines[: len(CYCLES)], CYCLES)
         self.assertEqual(lines[-4:], ENTRY)
         memory = [line.split(" ; = ")[1] for line in lines if line.startswith("get ")]
         self.assertEqual(memory, READ)
-
-    def test_names_have_the_numbers_of_elements(self) -> None:
-        beam = {FINAL: {**GOOD[FINAL], "beam": dict.fromkeys(BEAM, 0)}}
-        beam[INITIAL] = beam[FINAL]
-        kinds = (
-            element("first"),
-            {**REFUSED, FINAL: GOOD[INITIAL], "name": "no"},
-            element("beam", **beam),
-            element("fourth"),
-            element("last"),
-        )
-        path = self.elements(*kinds)
-        for number, (words, names) in enumerate(
-            (
-                ((), ["000000", "000003", "000004"]),
-                (("--first", 4), ["000000", "000003"]),
-                (("--first", 3), ["000000"]),
-            )
-        ):
-            folder = self.folder / f"asked{number}"
-            count = len(names)
-            told = f"{count} script{'s' * (count > 1)}\n"
-            self.assertEqual(steps("scripts", folder, path, *words), (0, told, ""))
-            listed = (folder / "list.txt").read_text()
-            self.assertEqual(listed, "".join(f"some/{name}.vga -\n" for name in names))
-            found = sorted(path.stem for path in (folder / "some").iterdir())
-            self.assertEqual(found, names)
-        lines = (self.folder / "asked0" / "some" / "000003.vga").read_text().splitlines()
-        self.assertEqual(lines[0], "; fourth")
-        self.assertIn("put A0005 07", lines)
-        answers = [line for line in lines if line.startswith("get A0005 ; = ")]
-        self.assertEqual(answers, 4 * ["get A0005 ; = 07"])
-
-    def test_a_file_whose_name_is_no_utf_8(self) -> None:
-        os.rename(self.elements(GOOD), self.folder / "caf\udce9.json")
-        scripts = self.folder / "scripts"
-        done = steps("scripts", scripts, self.folder / "caf\udce9.json")
-        self.assertEqual(done, (0, "1 script\n", ""))
-        self.assertEqual((scripts / "list.txt").read_bytes(), b"caf\xe9/000000.vga -\n")
-        self.assertTrue((scripts / "caf\udce9" / "000000.vga").exists())
-
-    def test_reports_of_no_element_agree_with_nothing(self) -> None:
-        path = self.elements({**REFUSED, FINAL: GOOD[INITIAL]})
-        told = f"{path}: no element\nof all files\n0 elements: 0 agree, 0 differ\n"
-        self.assertEqual(steps("reports", self.folder, path), (1, told, ""))
 
     def test_kinds_are_told_without_their_parts(self) -> None:
         status, output, said = steps("kinds")

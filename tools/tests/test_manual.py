@@ -6,7 +6,7 @@ import shutil
 import unittest
 from pathlib import Path
 
-from zaklimot_tools.core.version import version
+from zaklimot.commands.core.version import version
 
 from .completing import IN_BASH, IN_FISH, IN_ZSH, WITH_FISH, WITH_ZSH, Completing
 from .test_edges import HELP

@@ -7,11 +7,11 @@ import argparse
 import unittest
 from typing import Any
 
-from zaklimot_tools.trace.asked import Deed
-from zaklimot_tools.trace.moments import Moment, Passed, Steps
-from zaklimot_tools.trace.step import ADVANCE, IN, TraceStep
-from zaklimot_tools.trace.trace import SCREEN
-from zaklimot_tools.trace.words import _deed
+from zaklimot.commands.trace.asked import Deed
+from zaklimot.commands.trace.moments import Moment, Passed, Steps
+from zaklimot.commands.trace.step import ADVANCE, IN, TraceStep
+from zaklimot.commands.trace.trace import SCREEN
+from zaklimot.commands.trace.words import _deed
 
 from .tools import hold, refused
 from .tracing import BEGIN, qemu, texts, trace

@@ -11,10 +11,10 @@ import unittest
 from typing import Any, Callable, Iterator, Optional
 from unittest import mock
 
-from zaklimot_tools.trace import monitor, recording
-from zaklimot_tools.trace.asked import Deed
-from zaklimot_tools.trace.monitor import Monitor, key_names, monitor_at
-from zaklimot_tools.trace.recording import check_keys
+from zaklimot.commands.trace import monitor, recording
+from zaklimot.commands.trace.asked import Deed
+from zaklimot.commands.trace.monitor import Monitor, key_names, monitor_at
+from zaklimot.commands.trace.recording import check_keys
 
 from .tools import Folder, hold, refused
 

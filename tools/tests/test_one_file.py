@@ -4,12 +4,12 @@ import re
 import unittest
 from unittest import mock
 
-from zaklimot_tools import TOP
-from zaklimot_tools.core.trouble import Trouble, Wrong
-from zaklimot_tools.core.version import HEADER, calls_of
-from zaklimot_tools.dev.library import one_file as portable
-from zaklimot_tools.dev.library.one_file import C_FILE, HAND, Places, one_file
-from zaklimot_tools.dev.library_tests import one_file as checks
+from zaklimot.commands import TOP
+from zaklimot.commands.core.trouble import Trouble, Wrong
+from zaklimot.commands.core.version import HEADER, calls_of
+from zaklimot_dev.library import one_file as portable
+from zaklimot_dev.library.one_file import C_FILE, HAND, Places, one_file
+from zaklimot_dev.library_tests import one_file as checks
 
 from .tools import hold_refused
 

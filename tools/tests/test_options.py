@@ -1,4 +1,4 @@
-"""Options of `vga-report`: the bounds of their numbers; which of them contradict others, which is
+"""Options of `zaklimot`: the bounds of their numbers; which of them contradict others, which is
 told before any work, and which only look so."""
 
 from __future__ import annotations
@@ -9,8 +9,8 @@ import os
 from functools import partial
 from urllib.parse import unquote
 
-from zaklimot_tools.report.debugging import DOCS, page_data
-from zaklimot_tools.report.words import parser
+from zaklimot.commands.report.debugging import DOCS, page_data
+from zaklimot.commands.words import parser
 
 from .tools import BLACK, Folder, ppm, report, run_tool
 
@@ -27,30 +27,14 @@ CONTRADICTING = {
         "run s.vga --bless --json o",
         "run s.vga --bless --json -",
         "run s.vga --bless --json=",
-        "run s.vga --bless --diff --json o",
     ),
-    "--debug writes a page that runs the script: without --bless, --pictures and --show": (
-        "run s.vga --debug o --pictures p",
-        "run s.vga --debug o --pictures=",
-        "run s.vga --debug - --show",
-        "run s.vga --debug o --bless",
-    ),
-    "--debug runs nothing here: without --only, --try and --vga": (
-        "run s.vga --debug o --only 1",
-        "run s.vga --debug o --only=",
-        "run s.vga --debug o --try",
-        "run s.vga --debug o --vga ./vga",
-    ),
-    "a folder of scripts, and --junit, want none of --bless, --only, --pictures, --show and"
-    " --debug": tuple(
+    "a folder of scripts, and --junit, want none of --bless, --only, --pictures and --show": tuple(
         f"run {script} {option}"
         for script in ("scripts", "s.vga --junit o", "s.vga --junit=")
         for option in (
             *("--bless", "--only 1", "--only=", "--pictures p", "--pictures=", "--show"),
-            "--debug q",
         )
     ),
-    "--watch wants a file that changes, and not standard input": ("run - --watch",),
     "the pictures want a folder, or --apng a file": ("pictures r", "pictures r --ppm"),
     "--apng writes one file, with neither a folder nor --ppm": (
         "pictures r p --apng o",
@@ -62,19 +46,20 @@ CONTRADICTING = {
         "pictures r p --ppm --scale 2",
         "pictures r p --ppm --aspect",
     ),
-    "--expected tells the first step that differs: without --all, --picture and --html": tuple(
+    "--expected tells the first step that differs: without --all, --picture and --step": tuple(
         f"compare r e --expected {option}"
-        for option in ("--all", "--picture o", "--picture=", "--html o", "--html=")
+        for option in ("--all", "--picture o", "--picture=", "--step 1")
     ),
+    "--step is of one picture: without --all": ("compare r i --step 1 --all",),
+    "--within is of a picture: --step N": ("compare r s --within 1",),
+    "--still is for traces, and these are reports": ("compare r r --still 1",),
     "the command is one word of the shell: 'true {script}'": ("suite true {script} --list l",),
 }
 # Options that look as if they did, and the exit status of the work that is done.
 TOGETHER = (
-    ("run s.vga --vga ./vga --bless --diff", 0),
-    ("run s.vga --vga ./vga --diff --json - --until 0", 0),
     ("run s.vga --vga ./vga --quiet --only 1 --show --strict --jobs 2", 0),
-    ("run scripts --vga ./vga --strict --until 0 --quiet --diff", 0),
-    ("run s.vga --debug - --until 0 --quiet --strict", 0),
+    ("run scripts --vga ./vga --strict --until 0 --quiet", 0),
+    ("page s.vga - --until 0", 0),
     ("pictures r - --ppm --scale 1", 0),
     ("compare r e --expected --scale 2", 0),
 )
@@ -88,7 +73,7 @@ BOUNDS = (
     ("pictures r p --step {}", 1, 4_294_967_295),
     ("pictures r p --scale {}", 1, 1000),
     ("compare r s --scale {}", 1, 1000),
-    ("compare-picture r {} i", 1, 4_294_967_295),
+    ("compare r i --step {}", 1, 4_294_967_295),
 )
 
 
@@ -106,7 +91,7 @@ class Options(Folder):
     def done(self, words: str) -> tuple[int, bytes, str]:
         """Exit status, output and standard error of the command in the folder."""
         prepare = partial(os.chdir, self.folder)
-        return run_tool("vga-report", *words.split(), given=report(PICTURE), prepare=prepare)
+        return run_tool("zaklimot", *words.split(), given=report(PICTURE), prepare=prepare)
 
     def test_numbers_have_bounds(self) -> None:
         for words, least, most in BOUNDS:
@@ -130,7 +115,7 @@ class Options(Folder):
         for told, lines in CONTRADICTING.items():
             for words in lines:
                 with self.subTest(words):
-                    self.assertEqual(self.done(words), (2, b"", f"vga-report: {told}\n"))
+                    self.assertEqual(self.done(words), (2, b"", f"zaklimot: {told}\n"))
                     self.assertEqual(self.names(), before)
 
     def test_where_a_page_opens_a_script(self) -> None:
@@ -140,29 +125,29 @@ class Options(Folder):
             ("o p#.html", ("--until", "0"), "o%20p%23.html#step=0"),
             ("\u00e9.html", ("--until", "12"), "%C3%A9.html#step=12"),
         ):
-            words = ("run", "s.vga", "--debug", name, *until)
-            done = run_tool("vga-report", *words, prepare=partial(os.chdir, self.folder))
+            words = ("page", "s.vga", name, *until)
+            done = run_tool("zaklimot", *words, prepare=partial(os.chdir, self.folder))
             address = f"{self.folder.resolve().as_uri()}/{behind}"
             told = f"{name}: open it in a browser, for instance as {address}\n"
             self.assertEqual(done, (0, told.encode(), ""))
             self.assertTrue((self.folder / name).exists())
 
     def test_a_page_on_standard_output_is_one_of_the_current_folder(self) -> None:
-        status, page, said = self.done("run s.vga --debug -")
+        status, page, said = self.done("page s.vga -")
         self.assertEqual((status, said), (0, ""))
         pages = unquote(page_data(page.decode())["pages"])
         self.assertEqual((self.folder / pages).resolve(), DOCS)
 
     def test_a_page_wants_a_font_file_of_its_size(self) -> None:
-        wrong = "vga-report: {0}: the font file has {1} bytes, and 9,728 are right\n".format
+        wrong = "zaklimot: {0}: the font file has {1} bytes, and 9,728 are right\n".format
         for name, size, told in (
             ("f", 9727, wrong("f", "9,727")),
             ("f", 9729, wrong("f", "9,729")),
             ("f", 0, wrong("f", "0")),
-            ("-", 9728, "vga-report: --fonts wants a file\n"),
+            ("-", 9728, "zaklimot: --fonts wants a file\n"),
         ):
             self.write("f", bytes(size))
-            done = self.done(f"run s.vga --debug o --fonts {name}")
+            done = self.done(f"page s.vga o --fonts {name}")
             self.assertEqual((done, (self.folder / "o").exists()), ((2, b"", told), False))
 
     def test_those_that_only_look_so_do_their_work(self) -> None:

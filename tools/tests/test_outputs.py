@@ -11,7 +11,7 @@ import unittest
 from concurrent.futures import ThreadPoolExecutor
 from typing import Optional
 
-from zaklimot_tools.core.streams import counted
+from zaklimot.commands.core.streams import counted
 
 from .tools import BLACK, EXAMPLES, PROGRAM, RED, WHITE, Folder, hold, ppm, run_tool, want_program
 
@@ -29,22 +29,20 @@ HELD = f"step 1 and image differ: 2x1, six bits a component\n{DIFFER[0]}"
 MOVING = "1 picture, 0.014 seconds\n"
 MOVING = "{}: 1 picture, 1.029 seconds\n"
 OUTPUTS: tuple[tuple[str, int, str, Optional[str]], ...] = (
-    ("report pictures one --apng {}", 0, "{}: 1 frame, 0.014 seconds\n", ""),
-    ("report compare one two --picture {}", 1, COMPARED, None),
-    ("report compare one two --html {}", 1, COMPARED, None),
-    ("report compare-picture one 1 image --picture {}", 1, HELD, None),
+    ("pictures one --apng {}", 0, "{}: 1 frame, 0.014 seconds\n", ""),
+    ("compare one two --picture {}", 1, COMPARED, None),
+    ("compare one image --step 1 --picture {}", 1, HELD, None),
     ("floppy make script {}", 0, "", None),
     ("trace convert trace {}", 0, "2 cycles, 3 steps, 14 bytes: 2 out, 1 frame\n", None),
-    ("trace palette trace --vga {vga} {}", 0, "", None),
-    ("trace screen trace --vga {vga} {}", 0, "{}\n", ""),
-    ("trace font typed --vga {vga} {}", 0, "", None),
+    ("trace text typed --vga {vga} {}", 0, "", None),
+    ("trace pictures typed --vga {vga} --png {}", 0, "{}\n", ""),
     ("trace pictures timed --vga {vga} --apng {}", 0, MOVING, None),
 )
 # Where no picture is written although one is asked for, and why.
 UNWRITTEN = (
     ("compare one one", 0, "no pictures differ"),
-    ("compare-picture two 1 image", 0, "no dots differ"),
-    ("compare-picture one 1 large", 1, "the sizes differ"),
+    ("compare two image --step 1", 0, "no dots differ"),
+    ("compare one large --step 1", 1, "the sizes differ"),
 )
 NOWHERE = "standard output"
 
@@ -64,13 +62,13 @@ class Outputs(Folder):
     def done(self, words: str) -> tuple[int, bytes, str]:
         """Exit status, output and standard error of a command in the folder."""
         tool, *rest = shlex.split(words)
-        return run_tool(f"vga-{tool}", *rest, prepare=lambda: os.chdir(self.folder))
+        return run_tool("zaklimot", tool, *rest, prepare=lambda: os.chdir(self.folder))
 
     def test_each_is_the_file_that_stands_there_otherwise(self) -> None:
         want_program()
         for words, status, beside, told in OUTPUTS:
             with self.subTest(words):
-                name = "o.gpl" if "palette" in words else "o.psf" if "font" in words else "o"
+                name = "o"
                 done = self.done(words.format(name, vga=PROGRAM))
                 self.assertEqual(done, (status, beside.format(name).encode(), ""))
                 written = (self.folder / name).read_bytes()
@@ -84,7 +82,7 @@ class Outputs(Folder):
     def test_a_named_pipe_stays_one_and_its_reader_gets_all(self) -> None:
         pipe = self.folder / "pipe"
         os.mkfifo(pipe)
-        for words, status, _, _ in OUTPUTS[:6]:
+        for words, status, _, _ in OUTPUTS[:5]:
             # Both ends are open before, so that no end waits for one that is never opened.
             stream = open(os.open(pipe, os.O_RDONLY | os.O_NONBLOCK), "rb")
             held = os.open(pipe, os.O_WRONLY)
@@ -100,8 +98,8 @@ class Outputs(Folder):
     def test_a_picture_that_is_not_written_is_told(self) -> None:
         for words, status, reason in UNWRITTEN:
             for path, name in (("o", "o"), ("-", NOWHERE)):
-                done = self.done(f"report {words} --picture {path}")
-                told = f"vga-report: {reason}, so {name} isn't written\n"
+                done = self.done(f"{words} --picture {path}")
+                told = f"zaklimot: {reason}, so {name} isn't written\n"
                 self.assertEqual(done[0], status, words)
                 self.assertIn(told, done[2])
                 self.assertFalse((self.folder / path).exists())

@@ -10,25 +10,22 @@ import sys
 import tempfile
 import unittest
 import zipfile
-from collections import Counter
 from pathlib import Path
 from unittest import mock
 
-import building
+from zaklimot.commands import PARTS
 
-from zaklimot_tools import PARTS
-from zaklimot_tools.core.version import version
-from zaklimot_tools.dev.completions.command import completions, tools
-
-from .tools import PROGRAM, TOOLS, Folder, ended, want_program
+from .tools import PACKAGE, PROGRAM, TOP, Folder, ended, hold_version, path_of, want_program
 
 
-PACKAGE = TOOLS / "zaklimot_tools"
+PYTHON = TOP / "python"
+# What makes a wheel of this folder, and prints its name.
+MAKING = "import sys, building; print(building.build_wheel(sys.argv[1]))"
 
 
 def used_parts(path: Path) -> set[str]:
     """The parts of the tools' package that a module imports from."""
-    package = path.relative_to(TOOLS).parts[:-1]
+    package = path.relative_to(PYTHON).parts[:-1]
     found: set[str] = set()
     for node in ast.walk(ast.parse(path.read_text("utf-8"))):
         names = [name.name for name in node.names] if isinstance(node, ast.Import) else []
@@ -37,7 +34,11 @@ def used_parts(path: Path) -> set[str]:
             front = ".".join([*above, *([node.module] if node.module else [])])
             names = [f"{front}.{name.name}" for name in node.names]
         words = (name.split(".") for name in names)
-        found.update(word[1] for word in words if word[0] == PACKAGE.name and word[1] in PARTS)
+        found.update(
+            word[2]
+            for word in words
+            if word[:2] == ["zaklimot", "commands"] and word[2:3] and word[2] in PARTS
+        )
     return found
 
 
@@ -67,44 +68,37 @@ class Parts(Folder):
         with self.assertRaises(SyntaxError):
             ast.parse("match 1:\n    case 1: pass\n", feature_version=(3, 9))
 
-    def test_no_two_types_have_one_name(self) -> None:
-        kinds = re.compile(r"^class (\w+)", re.M)
-        folders = (PACKAGE, TOOLS.parent / "bindings" / "python" / "src" / "zaklimot" / "format")
-        names = Counter(
-            name
-            for folder in folders
-            for path in folder.rglob("*.py")
-            for name in kinds.findall(path.read_text("utf-8"))
-        )
-        # A report of the tools is one of the format, whose troubles name the file.
-        self.assertEqual([name for name, count in names.items() if count > 1], ["Report"])
-
     def test_what_a_module_uses_is_seen(self) -> None:
         for text, used in (
-            ("from zaklimot_tools.core import cli", {"core"}),
-            ("import zaklimot_tools.floppy.image", {"floppy"}),
-            ("from zaklimot_tools import report as other", {"report"}),
+            ("from zaklimot.commands.core import cli", {"core"}),
+            ("import zaklimot.commands.floppy.image", {"floppy"}),
+            ("from zaklimot.commands import report as other", {"report"}),
             ("def work():\n    from ..images.png import write_png", {"images"}),
             ("from .words import add", {"script"}),
             ("from zaklimot.format import read", set()),
         ):
-            with self.subTest(text), mock.patch(f"{__name__}.TOOLS", self.folder):
-                path = Path(self.write("zaklimot_tools/script/module.py", text))
+            with self.subTest(text), mock.patch(f"{__name__}.PYTHON", self.folder):
+                path = Path(self.write("zaklimot/commands/script/module.py", text))
                 self.assertEqual(used_parts(path), used)
 
     def test_a_tool_runs_from_any_folder_and_through_a_link(self) -> None:
         (self.folder / "there").mkdir()
-        for name in ("vga-report", "vga-trace", "vga-picture", "vga-floppy", "vga-steps"):
-            (self.folder / name).symlink_to(TOOLS / name)
+        for name in ("zaklimot", "vga-page"):
+            (self.folder / name).symlink_to(path_of(name))
             (self.folder / "there" / name).symlink_to(f"../{name}")
-            for path in (str(TOOLS / name), f"./{name}", f"there/{name}"):
+            for path in (str(path_of(name)), f"./{name}", f"there/{name}"):
                 with self.subTest(path):
                     done = ended(sys.executable, "-S", path, "--version", cwd=self.folder)
-                    self.assertEqual(done, (0, f"{name} {version()}\n", ""))
+                    hold_version(self, name, done)
+
+    def test_python_runs_the_package_as_the_command(self) -> None:
+        given = {**os.environ, "PYTHONPATH": str(PYTHON)}
+        done = ended(sys.executable, "-S", "-m", "zaklimot", "--version", env=given)
+        hold_version(self, "zaklimot", done)
 
 
 class Installed(Folder):
-    """`pip install tools` gives the commands of users, which need nothing of the clone then."""
+    """`pip install ./python` gives the commands of users, which need nothing of the clone then."""
 
     site: Path
     starting: dict[str, str]
@@ -114,7 +108,11 @@ class Installed(Folder):
         folder = tempfile.TemporaryDirectory()
         cls.addClassCleanup(folder.cleanup)
         cls.site = Path(folder.name) / "site"
-        name = building.build_wheel(folder.name)
+        environment = {**os.environ, "ZAKLIMOT_PORTABLE": "0", "ZAKLIMOT_DIR": ""}
+        words = (sys.executable, "-B", "-c", MAKING, folder.name)
+        status, told, said = ended(*words, cwd=PYTHON, env=environment)
+        assert status == 0, said
+        name = told.strip()
         with zipfile.ZipFile(Path(folder.name) / name) as wheel:
             wheel.extractall(cls.site)
             listed = wheel.read(f"{name.rsplit('-', 3)[0]}.dist-info/entry_points.txt").decode()
@@ -131,46 +129,32 @@ class Installed(Folder):
         python = [sys.executable, "-S", "-c", command]
         return ended(*python, *words[1:], cwd=self.folder, env=environment)
 
-    def test_the_commands_and_what_they_carry(self) -> None:
-        self.assertEqual(
-            sorted(self.starting),
-            ["vga-floppy", "vga-picture", "vga-report", "vga-steps", "vga-trace"],
-        )
-        for name in self.starting:
-            self.assertEqual(
-                self.run_installed(name, "--version"), (0, f"{name} {version()}\n", "")
-            )
-        self.assertFalse((self.site / "zaklimot_tools" / "dev").exists())
-        (data,) = self.site.glob("*.data/data/share")
-        made = {place for tool in tools() for place in completions(tool)}
-        laid = {str(path.relative_to(data)) for path in data.rglob("*") if path.is_file()}
-        self.assertEqual(laid, made)
-        status, told, said = self.run_installed("vga-report", "scripts", "cases", "--only", "dots/")
+    def test_the_command_and_what_it_carries(self) -> None:
+        self.assertEqual([*self.starting], ["zaklimot"])
+        done = self.run_installed("zaklimot", "--version")
+        hold_version(self, "zaklimot", done)
+        words = ("suite", "--scripts", "cases", "--only", "dots/")
+        status, told, said = self.run_installed("zaklimot", *words)
         self.assertEqual((status, said), (0, ""))
         self.assertTrue((self.folder / told.split("\n")[0]).is_file())
 
     def test_a_script_is_run_and_a_page_is_written(self) -> None:
         want_program()
         self.write("one.vga", "in 3CC ; = 00\n")
-        done = self.run_installed("vga-report", "run", "one.vga", "--vga", str(PROGRAM), "--quiet")
+        done = self.run_installed("zaklimot", "run", "one.vga", "--vga", str(PROGRAM), "--quiet")
         self.assertEqual((done[0], done[2]), (0, ""))
         self.assertIn("1 of 1 answers as expected", done[1])
-        done = self.run_installed("vga-report", "run", "one.vga", "--debug", "page.html")
+        done = self.run_installed("zaklimot", "page", "one.vga", "page.html")
         self.assertEqual((done[0], done[2]), (0, ""))
         self.assertGreater((self.folder / "page.html").stat().st_size, 100_000)
-
-    def test_what_is_no_source_is_left_out(self) -> None:
-        for name in ("a.py", "__pycache__/a.pyc", "carried/b.py", "c/d.bin"):
-            self.write(f"folder/{name}", "")
-        found = [path.name for path in building._files(self.folder / "folder")]
-        self.assertEqual(found, ["a.py", "d.bin"])
 
     @unittest.skipIf(importlib.util.find_spec("pip") is None, "there is no pip")
     def test_pip_installs_the_commands(self) -> None:
         words = ["-m", "pip", "install", "--quiet", "--no-index", "--disable-pip-version-check"]
         target = self.folder / "target"
-        done = ended(sys.executable, *words, "--target", target, TOOLS)
+        given = {**os.environ, "ZAKLIMOT_PORTABLE": "0", "ZAKLIMOT_DIR": ""}
+        done = ended(sys.executable, *words, "--target", target, PYTHON, env=given)
         self.assertEqual((done[0], done[1]), (0, ""), done[2])
         environment = {**os.environ, "PYTHONPATH": str(target)}
-        done = ended(target / "bin" / "vga-report", "--version", env=environment)
-        self.assertEqual(done, (0, f"vga-report {version()}\n", ""))
+        done = ended(target / "bin" / "zaklimot", "--version", env=environment)
+        hold_version(self, "zaklimot", done)

@@ -16,10 +16,10 @@ from typing import Any, Mapping, Optional
 from unittest import mock
 from urllib.parse import unquote, urljoin
 
-from zaklimot_tools.core.trouble import Trouble, Wrong
-from zaklimot_tools.core.version import HEADER, calls_of
-from zaklimot_tools.dev.page import command, editor, machine, making, page, sections
-from zaklimot_tools.dev.page.making import (
+from zaklimot.commands.core.trouble import Trouble, Wrong
+from zaklimot.commands.core.version import HEADER, calls_of
+from zaklimot_dev.page import command, editor, machine, making, page, sections
+from zaklimot_dev.page.making import (
     LAYOUTS,
     OF_C,
     OF_PAGE,
@@ -28,10 +28,10 @@ from zaklimot_tools.dev.page.making import (
     retargeted,
     with_kit,
 )
-from zaklimot_tools.dev.page.packing import about, packed
-from zaklimot_tools.dev.page.weighing import weights
-from zaklimot_tools.dev.page.words import MOST_BYTES
-from zaklimot_tools.dev.page.page import (
+from zaklimot_dev.page.packing import about, packed
+from zaklimot_dev.page.weighing import weights
+from zaklimot_dev.page.words import MOST_BYTES
+from zaklimot_dev.page.page import (
     DATA,
     MADE,
     SCRIPT,
@@ -42,25 +42,12 @@ from zaklimot_tools.dev.page.page import (
     make_page,
     page_text,
 )
-from zaklimot_tools.dev.page_tests import command as tests_command
-from zaklimot_tools.report import debugging
-from zaklimot_tools.report.debugging import DOCS, PAGE, data_element, page_data
+from zaklimot_dev.page_tests import command as tests_command
+from zaklimot.commands.report import debugging
+from zaklimot.commands.report.debugging import DOCS, PAGE, data_element, page_data
 
 from .running import Fake
-from .test_command import PICTURE, run
-from .tools import (
-    BLACK,
-    RED,
-    Folder,
-    call,
-    hold,
-    hold_refused,
-    hold_undone,
-    png_rows,
-    ppm,
-    refused,
-    main_of,
-)
+from .tools import Folder, call, hold, hold_refused, hold_undone, refused, main_of
 
 
 FRAME = f"<!DOCTYPE html>\n{MADE}\n{STYLE}\n{DATA}\n{SCRIPT}\n"
@@ -283,7 +270,7 @@ class Pages(Folder):
 
     def test_the_scripts_of_a_tutorial(self) -> None:
         part = (
-            "## 1. One\n\n```\nframe\n```\n\nIn a terminal: `tools/vga-report run"
+            "## 1. One\n\n```\nframe\n```\n\nIn a terminal: `./zaklimot run"
             " examples/tutorial/one.vga`.\n"
         )
         self.assertEqual(
@@ -642,7 +629,7 @@ class Opened(Fake):
     ) -> tuple[int, str, str]:
         """Exit status, standard output and standard error of a run that writes a page, and nothing
         else."""
-        return self.run_tool("run", path, "--debug", made, *words, given=given)
+        return self.run_tool("page", path, made, *words, given=given)
 
     def test_how_it_is_opened_at_a_step(self) -> None:
         made = str(self.made)
@@ -681,13 +668,13 @@ class Opened(Fake):
             told = "the page is not built: `tools/vga-page make page/zaklimot.html` builds it"
             hold_undone(self, self.debugged(self.script, made=str(self.made)), told)
             built.write_text("<!DOCTYPE html>\n")
-            told = "^vga-report: built.html: it is not the page that runs scripts\n$"
+            told = "^zaklimot: built.html: it is not the page that runs scripts\n$"
             hold_undone(self, self.debugged(self.script, made=str(self.made)), told)
             built.write_bytes(PAGE.read_bytes())
             hold_undone(
                 self,
                 self.debugged(self.script, made=str(built)),
-                f"^vga-report: {built}: it is read as ",
+                f"^zaklimot: {built}: it is read as ",
             )
         self.assertFalse(self.made.exists())
 
@@ -757,33 +744,3 @@ class Listings(Fake):
         (found,) = re.findall(r'<script type="application/json" id="frames">(.*?)</script>', page)
         frames: list[dict[str, object]] = json.loads(found)
         return frames
-
-    def test_what_a_report_says_is_no_part_of_the_page(self) -> None:
-        path = self.report("<b>&", "ax=0000 bx=0000 cx=0000 dx=0000")
-        other = self.report('"<script>', "ax=0001 bx=0000 cx=0000 dx=0000")
-        status, text, _ = self.run_tool("compare", path, other, "--html", "-")
-        self.assertEqual(status, 1)
-        self.assert_stands_alone(text)
-        self.assertIn("/&lt;b&gt;&amp;</th>", text)
-        self.assertIn("/&quot;&lt;script&gt;</th>", text)
-        self.assertIn("<td>ax=0001 bx=0000 cx=0000 dx=0000</td>", text)
-
-    def test_two_reports(self) -> None:
-        path, other = self.report("a", "00", PICTURE), self.report(
-            "b", "01", ppm(9, 1, RED * 3 + BLACK * 6)
-        )
-        page = self.folder / "page.html"
-        status, output, said = run("compare", path, other, "--html", str(page))
-        self.assertEqual((status, said), (1, ""))
-        self.assertTrue(output.startswith(b"step 1 differs\n"))
-        text = page.read_text(encoding="utf-8")
-        reader = self.assert_stands_alone(text)
-        self.assertEqual(len([tag for tag, _ in reader.elements if tag == "canvas"]), 3)
-        title = "step 2: 1 of 9 dots differ, the first is dot 3 of row 0: 3F0000, not 000000"
-        self.assertEqual(
-            self.frames(text), [{"step": 2, "title": title, "images": ["p1", "p2", "p3"]}]
-        )
-        sources = [attributes["src"] or "" for tag, attributes in reader.elements if tag == "img"]
-        marked = png_rows(base64.b64decode(sources[2].partition(",")[2]))
-        self.assertEqual(marked, (9, 1, [b"\x55\0\0" * 3 + b"\xff\x20\x20" + bytes(15)]))
-        self.assertIn("2 steps differ; 2 steps, 1 picture", text)

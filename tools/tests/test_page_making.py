@@ -12,16 +12,16 @@ from pathlib import Path
 from typing import Any, Optional
 from unittest import mock
 
-from zaklimot_tools.core.processes import Done
-from zaklimot_tools.core.progress import Progress
-from zaklimot_tools.core.trouble import Wrong
-from zaklimot_tools.dev.library.making import FONTS
-from zaklimot_tools.dev.page import command, editor, machine, making, package, page, sections
-from zaklimot_tools.dev.page.machine import MachineModules
-from zaklimot_tools.dev.page.making import check_module, kit_of, with_kit
-from zaklimot_tools.dev.page.packing import in_base64, packed, unzipped
+from zaklimot.commands.core.processes import Done
+from zaklimot.commands.core.progress import Progress
+from zaklimot.commands.core.trouble import Wrong
+from zaklimot_dev.library.making import FONTS
+from zaklimot_dev.page import command, editor, machine, making, package, page, sections
+from zaklimot_dev.page.machine import MachineModules
+from zaklimot_dev.page.making import check_module, kit_of, with_kit
+from zaklimot_dev.page.packing import in_base64, packed, unzipped
 
-from zaklimot_tools.dev.page_tests import command as tests_command
+from zaklimot_dev.page_tests import command as tests_command
 
 from .test_page import (
     FRAME,
@@ -529,7 +529,7 @@ class Blocks(Folder):
 
     def test_each_script_of_a_part_of_the_tutorial_has_its_file(self) -> None:
         script = "```\n{}\n```\n\n".format
-        file = "In a terminal: `tools/vga-report run examples/tutorial/{}.vga`.\n\n".format
+        file = "In a terminal: `./zaklimot run examples/tutorial/{}.vga`.\n\n".format
         one, other = script("frame"), script("; Bytes.\nin 3DA")
         front = f"# T\n\n## Two\n\n{one}{file('one')}{other}"
         made = page.tutorial(front + file("b-c"))
@@ -577,7 +577,7 @@ class Blocks(Folder):
         for text in (whole[:-8], "!" + whole[1:], in_base64(b"data")):
             told = "^a part of the page is not packed as it should be: "
             self.assertRaisesRegex(Wrong, told, unzipped, text)
-        with mock.patch("zaklimot_tools.dev.page.packing.MOST_UNPACKED", 4):
+        with mock.patch("zaklimot_dev.page.packing.MOST_UNPACKED", 4):
             self.assertEqual(unzipped(whole), b"data")
             told = refused(unzipped, in_base64(packed(b"data!")))
         self.assertEqual(told, "the page: a part of it unpacks to more than 4 bytes")

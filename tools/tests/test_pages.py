@@ -14,14 +14,14 @@ from typing import Iterator
 from unittest import mock
 
 from zaklimot import Script, format
-from zaklimot_tools.core.trouble import Wrong
-from zaklimot_tools.dev.page.page import examples
-from zaklimot_tools.dev.page.weighing import table_of, weights
-from zaklimot_tools.dev.page.words import MOST_BYTES as MOST_PAGE_BYTES
-from zaklimot_tools.dev.page_tests import command
-from zaklimot_tools.report.cases import read_cases
-from zaklimot_tools.report.places import SUITE
-from zaklimot_tools.script.words import FONTS
+from zaklimot.commands.core.trouble import Wrong
+from zaklimot_dev.page.page import examples
+from zaklimot_dev.page.weighing import table_of, weights
+from zaklimot_dev.page.words import MOST_BYTES as MOST_PAGE_BYTES
+from zaklimot_dev.page_tests import command
+from zaklimot.commands.report.cases import read_cases
+from zaklimot.commands.report.places import SUITE
+from zaklimot.commands.script.words import FONTS
 
 from .tools import (
     patched,
@@ -45,8 +45,7 @@ HEADING, ANCHOR = re.compile(r"#{1,6} +(.*?)\s*$"), re.compile(r'<a (?:id|name)=
 FENCE = re.compile(r"^ *(```|~~~)")
 OUTSIDE = ("http:", "https:", "mailto:")
 # How a command of the repository begins. In prose its path stands between back quotes.
-COMMAND = re.compile(r"(?:\$ )?(?:tools|crates|bench|examples|page|\.ci)/\S+( |$)")
-PACKAGE = TOOLS / "zaklimot_tools"
+COMMAND = re.compile(r"(?:\$ )?(?:(?:tools|crates|bench|examples|page|\.ci)/\S+|\./zaklimot)( |$)")
 TUTORIAL = TOP / "docs" / "TUTORIAL.md"
 TEXT = TUTORIAL.read_text("utf-8")
 SCRIPTS = EXAMPLES / "tutorial"
@@ -64,7 +63,7 @@ BLOCK = re.compile(r"^```\w*\n(.*?)^```$", re.M | re.S)
 # The commands of examples/README.md that make pictures: script, stop, words of `pictures`, file.
 MAKING = re.compile(
     r"vga go (examples/tutorial/\S+)( --until \d+)? --fonts fonts/zaklimot\.fnt \|\n"
-    r" +tools/vga-report pictures (.*?) ?>? (docs/pictures/\S+)$",
+    r" +\./zaklimot pictures (.*?) ?>? (docs/pictures/\S+)$",
     re.M,
 )
 # The tutorial's pictures stay small.
@@ -229,7 +228,7 @@ class Commands(unittest.TestCase):
                 self.assertEqual(commands_in_prose(page.read_text("utf-8")), [])
 
     def test_one_that_lost_its_indentation_is_found(self) -> None:
-        lost = "tools/vga-report text report.txt"
+        lost = "tools/vga-lost report.txt"
         text = (
             f"# One\n\n{lost}\n\n    {lost}\n\n```\n{lost}\n```\n`{lost}` is"
             " a\ntools-of-tests/one\n"
@@ -326,7 +325,7 @@ class Tutorial(unittest.TestCase):
         self.assertEqual(BLOCK.findall(TEXT), [path.read_text("utf-8") for path in WHOLE])
 
     def test_each_script_has_its_command(self) -> None:
-        command = r"In a terminal: `tools/vga-report run (\S+) (?:--only pictures )?--show`\.$"
+        command = r"In a terminal: `\./zaklimot run (\S+) (?:--only pictures )?--show`\.$"
         names = sorted(str(path.relative_to(TOP)) for path in SCRIPTS.iterdir())
         self.assertEqual(sorted(re.findall(command, TEXT, re.M)), names)
 
@@ -371,7 +370,7 @@ class Tutorial(unittest.TestCase):
                 self.assertEqual(call(main_of("vga-page-tests"), "--browser")[0], 1)
 
     def test_the_program_writes_the_script(self) -> None:
-        environment = {**os.environ, "PYTHONPATH": str(TOP / "bindings" / "python" / "src")}
+        environment = {**os.environ, "PYTHONPATH": str(TOP / "python")}
         status, output, said = ended(sys.executable, "-B", CIRCLE, env=environment)
         self.assertEqual((status, said), (0, ""))
         self.assertTrue(
@@ -429,11 +428,11 @@ class Pictures(Folder):
                 self.assertTrue(unpacked(made) == unpacked(shown), "another picture")
 
     def made(self, words: list[str], report: bytes) -> bytes:
-        """What `vga-report pictures` makes of a report."""
+        """What `zaklimot suite pictures` makes of a report."""
         moves = "--apng" in words
         path = self.folder / "picture.png"
         words = [*words, str(path)] if moves else words
-        status, output, said = run_tool("vga-report", "pictures", *words, given=report)
+        status, output, said = run_tool("zaklimot", "pictures", *words, given=report)
         self.assertEqual(status, 0, said)
         return path.read_bytes() if moves else output
 
@@ -547,33 +546,12 @@ class SourcesOfCrates(unittest.TestCase):
 
 
 class Modules(unittest.TestCase):
-    """Each module of a tool stands in a table, and no page, script or test names one that is not
-    there."""
+    """No page, script or test names a module of a tool that is not there."""
 
     NAMED = re.compile(
-        r"from (zaklimot_tools[\w.]*)\.(\w+) import"
-        r"|tools/((?:\w+/)+\w+\.(?:py|css|js|mjs|c|json))\b"
+        r"from (zaklimot(?:_dev|\.commands)[\w.]*)\.(\w+) import"
+        r"|(?<![\w/])((?:tools|python)/(?:\w+/)+\w+\.(?:py|css|js|mjs|c|json))\b"
     )
-
-    def test_tables_have_them_all(self) -> None:
-        form = r"(?m)^\| Module of `([\w.]+)` \|.*\n\|---\|---\|\n((?:\|.*\n)+)"
-        tables = dict(re.findall(form, (TOOLS / "README.md").read_text("utf-8")))
-        folders = {path.parent for path in PACKAGE.glob("*/**/__init__.py")}
-        self.assertEqual(
-            set(tables) - {"zaklimot.format"},
-            {".".join(folder.relative_to(PACKAGE).parts) for folder in folders},
-        )
-        del tables["zaklimot.format"]
-        for name, rows in tables.items():
-            named = re.findall(
-                r"`(\w+)`", "".join(row.split(" | ")[0] for row in rows.splitlines())
-            )
-            there = [
-                path.stem
-                for path in PACKAGE.joinpath(*name.split(".")).glob("[!_]*")
-                if path.is_file() and path.suffix in (".py", "")
-            ]
-            self.assertEqual(sorted(named), sorted(there), name)
 
     def test_each_is_there(self) -> None:
         ends = ("mjs", "js", "py", "md")
@@ -582,8 +560,10 @@ class Modules(unittest.TestCase):
         files = [path for end in ends for path in TOP.glob(f"[!.ct]*/**/*.{end}")]
         for path in files:
             for package, module, file in self.NAMED.findall(path.read_text("utf-8", "replace")):
-                named = file or f"{package.replace('.', '/')}/{module}.py"
+                folder = "tools" if package.startswith("zaklimot_dev") else "python"
+                named = file or f"{folder}/{package.replace('.', '/')}/{module}.py"
                 with self.subTest(path.relative_to(TOP), module=named):
-                    self.assertTrue((TOP / "tools" / named).is_file())
+                    there = TOP / named
+                    self.assertTrue(there.is_file() or there.with_suffix("").is_dir())
                     seen += 1
         self.assertGreater(seen, 20)

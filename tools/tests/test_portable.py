@@ -21,13 +21,13 @@ from unittest import mock
 
 from zaklimot.format import FORMS
 from zaklimot.format.table import END_CODE, REPEAT_CODE
-from zaklimot_tools.core.files import files_of_run
-from zaklimot_tools.core.trouble import Trouble
-from zaklimot_tools.dev.testing.running import BUILT
-from zaklimot_tools.script import portable, program
-from zaklimot_tools.script.portable import portable_library, portable_program
-from zaklimot_tools.script.program import built_program, found_program
-from zaklimot_tools.script.program import PROGRAM as BUILT_PROGRAM
+from zaklimot.commands.core.files import files_of_run
+from zaklimot.commands.core.trouble import Trouble
+from zaklimot_dev.testing.running import BUILT
+from zaklimot.commands.script import portable, program
+from zaklimot.commands.script.portable import portable_library, portable_program
+from zaklimot.commands.script.program import built_program, found_program
+from zaklimot.commands.script.program import PROGRAM as BUILT_PROGRAM
 
 from . import commands
 from .tools import SIGNALS, TOP, Folder, begin, hold_refused, patched, refused, takes_long
@@ -43,6 +43,13 @@ while [ "$1" != -o ]; do shift; done
 printf '#!/bin/sh\\n{made}\\n' > "$2"
 chmod +x "$2"
 """
+# What compilers tell where the C library's headers or its first file are not here.
+BARE = (
+    "include/stdint.h:9:16: fatal error: stdint.h: No such file or directory",
+    "zaklimot.h:20:10: fatal error: 'stdint.h' file not found",
+    "zaklimot.h:20: error: include file 'stdint.h' not found",
+    "/usr/bin/ld: cannot find crt1.o: No such file or directory",
+)
 SLEEPS = "echo $$ > {}; sleep 600 & echo $! >> {}; wait"
 
 
@@ -293,6 +300,13 @@ class Lacking(Cache):
                 {"CC": self.compiler("bad", "echo oh >&2; exit 1")},
                 r"^\S+/bad: it can't compile .*; CC may name another .*\noh$",
             ),
+            *(
+                (
+                    {"CC": self.compiler(f"bare{number}", f"cat >&2 <<E\n{line}\nE\nexit 1")},
+                    rf"^\S+: the files of the C library .* libc6-dev; it can't .*\n{line}$",
+                )
+                for number, line in enumerate(BARE)
+            ),
             (
                 {"CC": self.compiler("cross", made="exit 3")},
                 r"^\S+/cross: what it makes doesn't run here$",
@@ -305,7 +319,7 @@ class Lacking(Cache):
             (
                 {"CC": "", "PATH": str(self.folder / "none")},
                 (
-                    r"^there is no C compiler .* package gcc or clang, on macOS Xcode's .*;"
+                    r"^there is no C compiler .* package gcc, clang or tcc, on macOS Xcode's .*;"
                     r" page/zaklimot\.html runs scripts "
                 ),
             ),

@@ -9,7 +9,7 @@ import shutil
 import sys
 from typing import Callable, NamedTuple
 
-from zaklimot_tools.core import progress
+from zaklimot.commands.core import progress
 
 from .answers import given_files
 from .tools import PROGRAM, RED, Folder, ppm, report, run_tool, takes_long, want_program
@@ -38,40 +38,28 @@ OF_CASES = Told(
 OF_FILES = Told(2, "1 of 2 files", "2 of 2 files")
 # Commands over the files of the recorded answers, and a few more.
 TELLING = {
-    "report run s.vga": Told(22, "s.vga: step 1 of 20", "s.vga: step 20 of 20"),
-    "report run s.vga --until 3 --quiet": Told(7, "s.vga: step 1 of 20", "s.vga: step 7 of 20"),
-    "report run d": Told(3, "1 of 3 scripts: d/a.vga", "3 of 3 scripts: d/sub/c.vga"),
-    # What is written on the terminal itself needs no line that tells of it.
-    "report text long.txt": NOTHING,
-    "report pictures s.txt p": Told(2, "s.txt: 50 %", "s.txt: 99 %"),
-    "report pictures s.txt --apng o": Told(2, "s.txt: 50 %", "s.txt: 99 %"),
-    "report pictures end.txt p": Told(5, "end.txt: 18 %", "end.txt: 100 %"),
-    "report compare-picture s.txt 17 nine.ppm": Told(1, "s.txt: 50 %", "s.txt: 50 %"),
-    "report compare long.txt long.txt": Told(4, "long.txt: 18 %", "long.txt: 80 %"),
-    f"report suite 'false # {{name}}' {CASES}": OF_CASES,
-    f"report suite 'false # {{name}}' --json {CASES}": OF_CASES,
+    "run s.vga": Told(22, "s.vga: step 1 of 20", "s.vga: step 20 of 20"),
+    "run s.vga --until 3 --quiet": Told(7, "s.vga: step 1 of 20", "s.vga: step 7 of 20"),
+    "run d": Told(3, "1 of 3 scripts: d/a.vga", "3 of 3 scripts: d/sub/c.vga"),
+    "pictures s.txt p": Told(2, "s.txt: 50 %", "s.txt: 99 %"),
+    "pictures s.txt --apng o": Told(2, "s.txt: 50 %", "s.txt: 99 %"),
+    "pictures end.txt p": Told(5, "end.txt: 18 %", "end.txt: 100 %"),
+    "compare s.txt nine.ppm --step 17": Told(1, "s.txt: 50 %", "s.txt: 50 %"),
+    "compare long.txt long.txt": Told(4, "long.txt: 18 %", "long.txt: 80 %"),
+    f"suite 'false # {{name}}' {CASES}": OF_CASES,
+    f"suite 'false # {{name}}' --json {CASES}": OF_CASES,
     "steps check 'python3 adapter.py' dac.json off.json": Told(
         40, "dac.json: 1 element, 1 differ", "off.json: 20 elements, 20 differ"
     ),
-    "steps confirm off.json dac.json --jobs 1": Told(
-        40, "off.json: 1 element", "dac.json: 20 elements"
-    ),
-    "steps confirm dac.json off.json --jobs 2": OF_FILES,
-    "steps coverage dac.json off.json --jobs 2 --least 0": OF_FILES,
     "steps make made --only dac-reads": Told(
         10_000, "dac-reads: 1 element", "dac-reads: 10000 elements"
     ),
-    "picture script plain.ppm o.vga --mode 13": NOTHING,
-    "picture script plain.ppm o.vga --mode 3 --scale": Told(
-        2000, "1 of 2,000 cells", "2,000 of 2,000 cells"
-    ),
     "trace text t.trace": Told(1301, ONE, MADE(1301)),
     "trace pictures t.trace p": NOTHING,
-    "trace palette t.trace o.gpl": Told(1301, ONE, MADE(1301)),
-    "trace screen t.trace o.png": Told(19, ONE, "report: 18 lines"),
-    "trace find t.trace A": Told(547, ONE, MADE(547)),
-    "trace find t.trace nothing": Told(547, ONE, MADE(547)),
-    "trace compare t.trace other.trace": Told(48, ONE, "report: 13 lines"),
+    "trace pictures t.trace --png o.png": Told(19, ONE, "report: 18 lines"),
+    "trace text t.trace --find A": Told(547, ONE, MADE(547)),
+    "trace text t.trace --find nothing": Told(547, ONE, MADE(547)),
+    "compare t.trace other.trace": Told(48, ONE, "report: 13 lines"),
 }
 
 
@@ -122,7 +110,7 @@ class Terminal(Folder):
             os.dup2(2, 1)
             prepare()
 
-        _, output, said = run_tool(f"vga-{tool}", *rest, prepare=begin)
+        _, output, said = run_tool("zaklimot", tool, *rest, prepare=begin)
         for name in set(self.names()) - set(before):
             path = self.folder / name
             if path.is_dir():
@@ -148,6 +136,6 @@ class Terminal(Folder):
 
     def test_a_program_that_does_not_answer_yet_is_told(self) -> None:
         self.program("slow", f'#!/bin/sh\nsleep 0.5\nexec {PROGRAM} "$@"\n')
-        told, shown = self.told("report run s.vga --quiet --vga ./slow")
+        told, shown = self.told("run s.vga --quiet --vga ./slow")
         self.assertIn("s.vga: no answer yet after 0 seconds", told)
-        self.assertEqual(shown, _shown(self.done("report run s.vga --quiet", lambda: None)))
+        self.assertEqual(shown, _shown(self.done("run s.vga --quiet", lambda: None)))

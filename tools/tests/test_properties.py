@@ -16,17 +16,16 @@ except ImportError as error:
     raise unittest.SkipTest("this Python has no hypothesis: install python3-hypothesis") from error
 
 from zaklimot.format import Report, ReportError, ScriptFault, decode, encode, parse_text, print_text
-from zaklimot_tools.core.trouble import Trouble
-from zaklimot_tools.core.words import MOST_SCALE, MOST_SECONDS, number_to, seconds
-from zaklimot_tools.explain.mistakes import marked_lines, mistake_in
-from zaklimot_tools.floppy.image import read_image, read_record
-from zaklimot_tools.images.words import within
-from zaklimot_tools.picture.words import colour
-from zaklimot_tools.report.expecting import dumps_in, expected_in
-from zaklimot_tools.steps.reading import fault_of, read_elements
-from zaklimot_tools.steps.rules import branches_shown
-from zaklimot_tools.steps.scripts import text_lines
-from zaklimot_tools.trace.trace import Trace
+from zaklimot.commands.core.trouble import Trouble
+from zaklimot.commands.core.words import MOST_SCALE, MOST_SECONDS, number_to, seconds
+from zaklimot.commands.explain.mistakes import marked_lines, mistake_in
+from zaklimot.commands.floppy.image import read_image, read_record
+from zaklimot.commands.images.words import within
+from zaklimot.commands.report.expecting import dumps_in, expected_in
+from zaklimot.commands.steps.reading import fault_of, read_elements
+from zaklimot.commands.steps.rules import branches_shown
+from zaklimot.commands.steps.scripts import text_lines
+from zaklimot.commands.trace.trace import Trace
 
 from .stepping import GOOD
 from .tools import EXAMPLES, stream
@@ -108,8 +107,6 @@ class Properties(unittest.TestCase):
         time = self.holds(lambda: seconds(word), refusal)
         self.assertTrue(time is None or 0 < time <= MOST_SECONDS)
         self.holds(lambda: within(word), refusal)
-        dot = self.holds(lambda: colour(word), refusal)
-        self.assertTrue(dot is None or len(dot) == 3)
 
     @tried
     @given(texts)

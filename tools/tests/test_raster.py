@@ -4,11 +4,10 @@ reference says of each. No number here comes of the code."""
 import unittest
 from typing import Callable, Iterator, Mapping, NamedTuple, Sequence
 
-from zaklimot_tools.explain import raster
-from zaklimot_tools.steps.dot_kinds import counters_of
-from zaklimot_tools.trace.cells import cells_of
-from zaklimot_tools.trace.fontfiles import FONT_PLANE, font_of, usual_map
-from zaklimot_tools.trace.state import State
+from zaklimot.commands.explain import raster
+from zaklimot.commands.steps.dot_kinds import counters_of
+from zaklimot.commands.trace.cells import cells_of
+from zaklimot.commands.trace.state import State
 
 # How many registers the CRT controller, the sequencer and the graphics controller have.
 CRTC = 25
@@ -361,18 +360,3 @@ class Glyphs(unittest.TestCase):
 
     def test_where_maps_begin(self) -> None:
         self.assertEqual(tuple(map(raster.map_begin, range(8))), MAPS)
-
-    def test_rows_of_the_selected_font(self) -> None:
-        for select in SELECTS:
-            state = State()
-            state.seq.registers[3] = select.select
-            # Row 6 of glyph 41: a glyph has 32 bytes.
-            state.memory.words[MAPS[select.b] + 0x41 * 32 + 6] = 0xA5 << 8 * FONT_PLANE
-            font = font_of(state, usual_map(state), 8, "")
-            rows = {
-                (number, row): dots
-                for number, glyph in enumerate(font.glyphs)
-                for row, dots in enumerate(glyph)
-                if dots
-            }
-            self.assertEqual(rows, {(0x41, 6): 0xA5}, f"{select.select:02X}")

@@ -18,15 +18,15 @@ from typing import Any
 from unittest import mock
 
 from zaklimot.format import Picture
-from zaklimot_tools.dev.emulators.traces import row as row_of
-from zaklimot_tools.trace import converting, keeper as keeping, recording
-from zaklimot_tools.trace.converting import Checked, Checking, Written
-from zaklimot_tools.trace.asked import Deed
-from zaklimot_tools.trace.note import Note, note_of
-from zaklimot_tools.trace.parts import Parts
-from zaklimot_tools.trace.recording import PHASES, QemuMachine, Session
-from zaklimot_tools.trace.replaying import Replay
-from zaklimot_tools.trace.trace import SCREEN
+from zaklimot_dev.emulators.traces import row as row_of
+from zaklimot.commands.trace import converting, keeper as keeping, recording
+from zaklimot.commands.trace.converting import Checked, Checking, Written
+from zaklimot.commands.trace.asked import Deed
+from zaklimot.commands.trace.note import Note, note_of
+from zaklimot.commands.trace.parts import Parts
+from zaklimot.commands.trace.recording import PHASES, QemuMachine, Session
+from zaklimot.commands.trace.replaying import Replay
+from zaklimot.commands.trace.trace import SCREEN
 
 from .tools import (
     BLACK,
@@ -325,7 +325,7 @@ class Recorded(Folder):
         status, _, said = self.record("--quiet", "50", "--seconds", "1")
         self.assertEqual(
             (status, said),
-            (0, "vga-trace: the software was still busy when its screen was taken\n"),
+            (0, "zaklimot: the software was still busy when its screen was taken\n"),
         )
         said = self.record("--quiet", "50", "--seconds", "1", "--key", "ret")[2]
         self.assertIn("seconds were over before it was time for the keys ret", said)
@@ -334,7 +334,7 @@ class Recorded(Folder):
         status, lines, said = self.record(
             "--screen", "10", words=("-leaves",), program=self.answering("ok", PICTURE)
         )
-        self.assertRegex(said, r"^vga-trace: the machine ended by itself after \d\.\d seconds\n$")
+        self.assertRegex(said, r"^zaklimot: the machine ended by itself after \d\.\d seconds\n$")
         self.assertEqual((status, lines[1]), (1, "2 steps, 0 refused, 0 reads answered, 0 differ"))
 
     def kept(self) -> list[str]:
@@ -351,7 +351,7 @@ class Recorded(Folder):
             with self.subTest(words):
                 status, lines, said = self.record(words=words)
                 self.assertEqual((status, lines, self.into.exists()), (2, [], False), said)
-                self.assertEqual(said, f"vga-trace: {told}")
+                self.assertEqual(said, f"zaklimot: {told}")
 
     def test_folders_that_were_made_in_vain_are_gone(self) -> None:
         own = self.folder / "own"
@@ -376,9 +376,9 @@ class Recorded(Folder):
             with self.subTest(words):
                 status, lines, said = self.record("--key", "ret", words=words, lines=LINES * 2)
                 self.assertEqual((status, lines), (2, []), said)
-                again = f"`vga-trace record {self.into} --again` judges it"
-                front = f"vga-trace: {self.into}: it has what was recorded: {again}\n"
-                self.assertTrue(said.startswith(f"{front}vga-trace: {told}"), said)
+                again = f"`zaklimot trace record {self.into} --again` judges it"
+                front = f"zaklimot: {self.into}: it has what was recorded: {again}\n"
+                self.assertTrue(said.startswith(f"{front}zaklimot: {told}"), said)
                 self.assertEqual(self.kept(), ["recording.json", "trace.gz"])
                 lines_kept = gzip.decompress((self.into / "trace.gz").read_bytes())
                 self.assertGreaterEqual(lines_kept.count(b"0x3c2"), 3)
@@ -390,7 +390,7 @@ class Recorded(Folder):
         with mock.patch.object(recording, "ANSWERING", 2):
             status, lines, said = self.record(words=("-stays",))
         told = "qemu-system-x86_64 didn't end within 2 seconds, and was ended"
-        self.assertEqual((status, said), (0, f"vga-trace: {told}\n"))
+        self.assertEqual((status, said), (0, f"zaklimot: {told}\n"))
         self.assertIn("equal", lines[-1])
         self.assert_ended(int((self.folder / "number").read_text()))
 
@@ -399,7 +399,7 @@ class Recorded(Folder):
             status, lines, said = self.record("--quiet", "50", "--key", "ret", "--screen", "quiet")
         full = "its trace has 10 bytes, as they are packed"
         told = f"{full}: the last screen is taken now; --polls first folds polls\n"
-        self.assertEqual((status, said), (0, f"vga-trace: {told}"))
+        self.assertEqual((status, said), (0, f"zaklimot: {told}"))
         self.assertIn("equal", lines[-1])
         self.assertEqual(self.asked(), ["qmp_capabilities", "screen", "quit"])
         self.assertEqual(self.note()["ended"], full)
@@ -418,7 +418,7 @@ class Recorded(Folder):
             program = self.answering("ok", PICTURE)
             status, lines, said = self.record("--key", "0.3:ret", program=program)
         told = "its trace can't be kept: No space left on device"
-        self.assertEqual((status, said), (1, f"vga-trace: {told}; --polls first folds polls\n"))
+        self.assertEqual((status, said), (1, f"zaklimot: {told}; --polls first folds polls\n"))
         self.assertEqual(lines[0], "1 cycle, 2 steps, 10 bytes: 1 out, 1 frame")
         self.assertEqual(self.asked(), ["qmp_capabilities", "send-key ret", "quit"])
         self.assertEqual(self.note()["ended"], told)
@@ -433,10 +433,10 @@ class Recorded(Folder):
     def test_a_key_that_there_is_not(self) -> None:
         status, lines, said = self.record("--key", "c,ctrl-rett")
         told = "`rett` is no key of qemu's: `ret` is one"
-        self.assertEqual((status, lines, said), (2, [], f"vga-trace: {told}\n"))
+        self.assertEqual((status, lines, said), (2, [], f"zaklimot: {told}\n"))
         self.assertFalse(self.into.exists() or (self.folder / "asked").exists())
         said = self.record("--key", "power")[2]
-        self.assertEqual(said, "vga-trace: `power` is no key of qemu's\n")
+        self.assertEqual(said, "zaklimot: `power` is no key of qemu's\n")
 
     def test_a_recording_that_is_judged_again(self) -> None:
         steps = (1, 1)
@@ -511,8 +511,8 @@ class Recorded(Folder):
         kept = gzip.decompress((self.into / "trace.gz").read_bytes())
         one = qemu("read 3da 1 1") + b"polls 4 of 'vga-trace'\n" + qemu("read 3cc 67 1")
         self.assertEqual(kept, LINES_KEPT + one * 2 + PHASES * (SCREEN + b"\n"))
-        output = run("kinds", self.into)[1].decode()
-        self.assertIn("           8 read port 3DA or 3BA, folded\n", output)
+        said = run("convert", self.into, self.folder / "script")[1].decode()
+        self.assertIn(", 8 polls folded: ", said)
 
     def test_software_that_waits_for_the_beam(self) -> None:
         front = "7@1700000000.000001:"
@@ -524,7 +524,7 @@ class Recorded(Folder):
         self.assertIn(f"{front}: {dumps}, {lost}", lines)
         words = ("--beam", "--polls", "first")
         found = self.record(*words, lines=polls, program=self.polled("ok", *["00"] * 1500))[1]
-        drawn = f"and `vga-trace pictures {self.into} --beam` draws it"
+        drawn = f"and `zaklimot trace pictures {self.into} --beam` draws it"
         self.assertIn(f"{front}: {dumps}, {drawn}", found)
         self.assertEqual(self.note()["words"][:2], ["-vga", "none,retrace=precise"])
         # What finds the retrace stays.
@@ -555,7 +555,7 @@ class Recorded(Folder):
         trying = '[ "$(wc -c < "$2")" -gt 10 ] || { echo 1 00; exit; }'
         program = self.program("vga", f"#!/bin/sh\n{trying}\necho oh >&2\nexit 3\n")
         status, _, said = self.record(program=program)
-        self.assertEqual((status, said), (2, f"vga-trace: {program}: it ended with status 3: oh\n"))
+        self.assertEqual((status, said), (2, f"zaklimot: {program}: it ended with status 3: oh\n"))
         dumps = [f".dump.{number}.ppm" for number in range(PHASES)]
         self.assertEqual(self.kept(), [*dumps, "recording.json", "script.bin", "trace.gz"])
         # What failed is judged once the program is right.

@@ -9,14 +9,13 @@ from typing import Callable, Optional, Sequence
 from unittest import mock
 
 from zaklimot.format import REFUSALS, Answer, Step, refusal_of
-from zaklimot_tools import TOP
-from zaklimot_tools.core.trouble import Trouble
-from zaklimot_tools.explain import mistakes, reasons
-from zaklimot_tools.explain.clocks import MODES, Registers
-from zaklimot_tools.explain.faults import explained
-from zaklimot_tools.explain.mistakes import Mistake, marked_lines, mistake_in
-from zaklimot_tools.explain.reasons import Reasons, bytes_of
-from zaklimot_tools.picture.mode import MODES as DRAWN
+from zaklimot.commands import TOP
+from zaklimot.commands.core.trouble import Trouble
+from zaklimot.commands.explain import mistakes, reasons
+from zaklimot.commands.explain.clocks import MODES, Registers
+from zaklimot.commands.explain.faults import explained
+from zaklimot.commands.explain.mistakes import Mistake, marked_lines, mistake_in
+from zaklimot.commands.explain.reasons import Reasons, bytes_of
 
 from .tools import Folder, hold, run_texts, want_library
 
@@ -501,9 +500,3 @@ class Modes(unittest.TestCase):
                 for name in ("miscellaneous output", "1 clocking mode", "6 miscellaneous")
             )
             self.assertEqual((mode.misc, mode.clocking, mode.map), (misc, clocking, window >> 2))
-
-    def test_the_pixels_of_what_is_drawn(self) -> None:
-        sizes = dict(zip((f"{mode:02X}" for mode in MODES), self.ROWS["pixels"]))
-        for name, mode in DRAWN.items():
-            told = f"{mode.width} by {mode.height}"
-            self.assertEqual(sizes[name.rjust(2, "0")], told, name)

@@ -12,11 +12,11 @@ from pathlib import Path
 from typing import Any, Optional
 from unittest import mock
 
-from zaklimot_tools.core.version import version
-from zaklimot_tools.dev.library.making import AARCH64, X86_64, Target
-from zaklimot_tools.dev.release import command as release, stepping
-from zaklimot_tools.dev.release.command import Commit, Entry, File
-from zaklimot_tools.script.library import NAMED
+from zaklimot.commands.core.version import version
+from zaklimot_dev.library.making import AARCH64, X86_64, Target
+from zaklimot_dev.release import command as release, stepping
+from zaklimot_dev.release.command import Commit, Entry, File
+from zaklimot.commands.script.library import NAMED
 
 from .tools import Folder, call, ended, hold_undone, main_of, patched, refused
 
@@ -110,7 +110,7 @@ class Entries(Folder):
             return {"LICENSE": File(b"free"), release.PAGE: File(b"# A release\n")}
 
         def run(words: list[object]) -> str:
-            self.assertEqual([str(word) for word in words[2:-1]], ["scripts"])
+            self.assertEqual([str(word) for word in words[2:-1]], ["suite", "--scripts"])
             folder = Path(str(words[-1]))
             folder.mkdir()
             (folder / "list.txt").write_text("one.vga -\n")
@@ -212,12 +212,12 @@ class Steps(Folder):
         ran: list[str] = []
 
         def run(words: list[object], heard: object, environment: object = None) -> None:
-            ran.append(str(words[2]))
-            if words[2] == "make":
-                given = dict(zip(map(str, words[4::2]), map(str, words[5::2])))
+            ran.append(str(words[3]))
+            if words[3] == "make":
+                given = dict(zip(map(str, words[5::2]), map(str, words[6::2])))
                 self.assertEqual((given["--count"], given["--seed"]), (str(count), "18977485"))
                 self.assertEqual(environment, {NAMED: str(library)})
-                folder = Path(str(words[3]))
+                folder = Path(str(words[4]))
                 folder.mkdir()
                 (folder / "out.json.gz").write_bytes(b"elements")
 
@@ -226,14 +226,21 @@ class Steps(Folder):
 
     def test_a_whole_release_shows_each_rule(self) -> None:
         library = Path(self.write("library", "proved"))
-        for count, commands in ((9_999, ["make"]), (10_000, ["make", "coverage"])):
-            ran, files = self.make(count, library)
-            self.assertEqual(ran, commands)
+        for count, is_looked_at in ((9_999, False), (10_000, True)):
+            with mock.patch.object(stepping, "seldom_shown", return_value=iter(())) as seldom:
+                ran, files = self.make(count, library)
+            self.assertEqual((ran, seldom.called), (["make"], is_looked_at))
             told = (
                 f"commit 012192cdff\nseed 18977485\ncount {count}\n"
                 f"library sha256 {hashlib.sha256(b'proved').hexdigest()}\n"
             )
             self.assertEqual(files, {"steps/out.json.gz": b"elements", "MADE-OF": told.encode()})
+
+    def test_a_branch_that_is_shown_too_seldom(self) -> None:
+        library = Path(self.write("library", "proved"))
+        with mock.patch.object(stepping, "seldom_shown", return_value=iter(["a rule: 3 of 9"])):
+            told = refused(self.make, 10_000, library)
+        self.assertEqual(told, "the elements show a branch too seldom: a rule: 3 of 9")
 
     def test_elements_that_are_too_large(self) -> None:
         library = Path(self.write("library", "proved"))

@@ -18,14 +18,14 @@ from pathlib import Path
 from typing import Iterator
 from unittest import mock
 
-from zaklimot_tools import TOP
-from zaklimot_tools.core.processes import PACKAGES, Done
-from zaklimot_tools.core.progress import Progress
-from zaklimot_tools.core.version import version
-from zaklimot_tools.dev.library import making
-from zaklimot_tools.dev.library.making import AARCH64, HEAP, HEAP_OPTIONS, X86_64
-from zaklimot_tools.dev.release import command as release, stepping
-from zaklimot_tools.dev.release.command import (
+from zaklimot.commands import TOP
+from zaklimot.commands.core.processes import PACKAGES, Done
+from zaklimot.commands.core.progress import Progress
+from zaklimot.commands.core.version import version
+from zaklimot_dev.library import making
+from zaklimot_dev.library.making import AARCH64, HEAP, HEAP_OPTIONS, X86_64
+from zaklimot_dev.release import command as release, stepping
+from zaklimot_dev.release.command import (
     FRONT,
     INSTALL,
     LINKS,
@@ -36,7 +36,7 @@ from zaklimot_tools.dev.release.command import (
     File,
     settled,
 )
-from zaklimot_tools.steps.kinds import KINDS
+from zaklimot.commands.steps.kinds import KINDS
 
 from .test_pages import broken
 from .tools import Folder, call, ended, hold, hold_undone, main_of, patched, refused, takes_long
@@ -247,7 +247,7 @@ class Parts(Folder):
                 (FRONT, b"[a](docs/A.md) [b](README.md#d)", b"[a](A.md) [b](README.md#d)"),
                 (
                     front,
-                    b"[a](../../../../docs/A.md) [c](#e) [f](https://g.h/)",
+                    b"[a](../../../docs/A.md) [c](#e) [f](https://g.h/)",
                     b"[a](docs/A.md) [c](#e) [f](https://g.h/)",
                 ),
                 # What stands between fences stays.
@@ -261,7 +261,8 @@ class Parts(Folder):
 
     def test_what_is_changed_is_no_release(self) -> None:
         with mock.patch(
-            "zaklimot_tools.core.processes.captured", return_value=Done(0, b" M README.md\n", b"")
+            "zaklimot.commands.core.processes.captured",
+            return_value=Done(0, b" M README.md\n", b""),
         ):
             told = (
                 "^vga-release: a release is made from a commit, and this is changed: M README.md\n$"
@@ -332,11 +333,11 @@ class Whole(Folder):
             (f"{crate}/portable/zaklimot.fnt", "fonts/zaklimot.fnt"),
             (f"{crate}/LICENSE", "LICENSE"),
             ("bindings/rust/zaklimot/LICENSE", "LICENSE"),
-            ("bindings/python/LICENSE", "LICENSE"),
+            ("python/LICENSE", "LICENSE"),
         ):
             copied, own = ((self.folder / place).read_bytes() for place in (copy, file))
             self.assertTrue(copied == own, copy)
-        backend = self.folder / "bindings" / "python" / "building.py"
+        backend = self.folder / "python" / "building.py"
         asking = f"import runpy; print(runpy.run_path({str(backend)!r})['part']('zaklimot.c'))"
         self.assertEqual(ended(sys.executable, "-c", asking), (0, f"{source}\n", ""))
 
@@ -482,7 +483,7 @@ class OtherProcessors(Folder):
 
     def test_what_is_run_and_what_is_laid(self) -> None:
         progress = mock.create_autospec(Progress, instance=True)
-        with mock.patch("zaklimot_tools.core.cli.Progress", return_value=progress):
+        with mock.patch("zaklimot.commands.core.cli.Progress", return_value=progress):
             status, told, said = self.make("kit-for-arm")
         self.assertIn(
             " proving and building the library: vga_bits, crate 1 of ",

@@ -13,18 +13,18 @@ from typing import Sequence
 from unittest import mock
 
 from zaklimot.format import Picture
-from zaklimot_tools.images.reading import image_of
-from zaklimot_tools.script.words import FONTS
-from zaklimot_tools.trace import keeper as keeping, parts
-from zaklimot_tools.trace.beamed import Beamed
-from zaklimot_tools.trace.clocked import Clocked
-from zaklimot_tools.trace.folding import Folding
-from zaklimot_tools.trace.keeper import Keeper
-from zaklimot_tools.trace.parts import Parts, parts_of
-from zaklimot_tools.trace.replaying import ALLOWED, PAGE, SEEN, Screen, whole_rows
-from zaklimot_tools.trace.state import State
-from zaklimot_tools.trace.step import ADVANCE, FRAME, IN, INT, OUT, OUTW, PUT, TraceStep
-from zaklimot_tools.trace.trace import SCREEN, Call, opened
+from zaklimot.commands.images.reading import image_of
+from zaklimot.commands.script.words import FONTS
+from zaklimot.commands.trace import keeper as keeping, parts
+from zaklimot.commands.trace.beamed import Beamed
+from zaklimot.commands.trace.clocked import Clocked
+from zaklimot.commands.trace.folding import Folding
+from zaklimot.commands.trace.keeper import Keeper
+from zaklimot.commands.trace.parts import Parts, parts_of
+from zaklimot.commands.trace.replaying import ALLOWED, PAGE, SEEN, Screen, whole_rows
+from zaklimot.commands.trace.state import State
+from zaklimot.commands.trace.step import ADVANCE, FRAME, IN, INT, OUT, OUTW, PUT, TraceStep
+from zaklimot.commands.trace.trace import SCREEN, Call, opened
 
 from .test_recording import picture_of
 from .tools import (
@@ -412,7 +412,7 @@ class RealTime(Folder):
         moving, folder = self.folder / "moving.png", self.folder / "pictures"
         status, out, said = run("pictures", trace, folder, "--apng", moving, "--vga", program)
         told = "1 silence cut to 1 s, and 4.0 s left out so"
-        self.assertEqual((status, said), (0, f"vga-trace: warning: {trace}: {told}\n"))
+        self.assertEqual((status, said), (0, f"zaklimot: warning: {trace}: {told}\n"))
         lines = out.decode().splitlines()
         self.assertEqual(lines[-1].rpartition(": ")[2], "2 pictures, 1.057 seconds")
         self.assertEqual(
@@ -437,7 +437,7 @@ class RealTime(Folder):
         ):
             program = self.program("vga", f"{begun}echo oh >&2\nexit 3\n")
             status, _, said = run("pictures", trace, self.folder / "pictures", "--vga", program)
-            self.assertEqual((status, said), (2, f"vga-trace: {program}: {told}\n"))
+            self.assertEqual((status, said), (2, f"zaklimot: {program}: {told}\n"))
 
 
 class Keeping(Folder):
@@ -559,11 +559,12 @@ class Keeping(Folder):
             for line in (qemu("write 3c2 67 1"), qemu("write 3c4 302 2"), qemu("read 3cc 67 1")):
                 kept.write(line)
             kept.close()
-        status, output, said = run("kinds", self.folder)
-        self.assertEqual((status, output.count(b"\n"), said), (0, 3, ""))
+        words = ("convert", self.folder, self.folder / "script")
+        status, output, said = run(*words)
+        self.assertEqual((status, output.startswith(b"3 cycles, "), said), (0, True, ""))
         last = self.folder / "trace-0003.gz"
         last.write_bytes(last.read_bytes()[:-9])
-        hold_undone(self, run("kinds", self.folder), "compressed bytes are damaged after this line")
+        hold_undone(self, run(*words), "compressed bytes are damaged after this line")
         # A computer that stops leaves a last part that is cut: what stands before counts.
         with opened(str(self.folder), may_be_cut=True) as trace:
             self.assertIn(len(list(trace.cycles())), (2, 3))
@@ -571,7 +572,7 @@ class Keeping(Folder):
         first.write_bytes(first.read_bytes()[:-9])
         with opened(str(self.folder), may_be_cut=True) as trace:
             self.assertIn("damaged", refused(list, trace.cycles()))
-        hold_undone(self, run("kinds", self.folder.parent), "the folder has no trace")
+        hold_undone(self, run("convert", self.folder.parent, "-"), "the folder has no trace")
 
     def test_polls_are_folded_however_they_come(self) -> None:
         def poll(port: str, value: str) -> bytes:

@@ -4,11 +4,8 @@ what two outputs have."""
 from __future__ import annotations
 
 import os
-import re
 from functools import partial
-from unittest import mock
 
-from zaklimot_tools.report import page
 
 from .tools import BLACK, RED, WHITE, Folder, hold, hold_undone, png_rows, ppm, report, run_tool
 
@@ -29,10 +26,10 @@ class Reports(Folder):
     def done(self, words: str, given: bytes = b"") -> tuple[int, bytes, str]:
         """Exit status, output and standard error of the command in the folder."""
         prepare = partial(os.chdir, self.folder)
-        return run_tool("vga-report", *words.split(), given=given, prepare=prepare)
+        return run_tool("zaklimot", *words.split(), given=given, prepare=prepare)
 
     def test_pictures_of_some_steps(self) -> None:
-        lacking = "vga-report: one: step {} has no picture; there are 5 steps\n".format
+        lacking = "zaklimot: one: step {} has no picture; there are 5 steps\n".format
         hold(
             self,
             self.done,
@@ -49,7 +46,7 @@ class Reports(Folder):
                     (
                         2,
                         b"",
-                        "vga-report: standard input: step 2 has no picture; there is 1 step\n",
+                        "zaklimot: standard input: step 2 has no picture; there is 1 step\n",
                     ),
                 ),
                 # A fault is no step.
@@ -59,7 +56,7 @@ class Reports(Folder):
                     (
                         2,
                         b"",
-                        "vga-report: standard input: step 1 has no picture; there are 0 steps\n",
+                        "zaklimot: standard input: step 1 has no picture; there are 0 steps\n",
                     ),
                 ),
                 # What stands behind the last of them is not read.
@@ -67,7 +64,7 @@ class Reports(Folder):
                 (
                     "pictures - p",
                     b"1 ok\n2 E\n",
-                    (2, b"", "vga-report: standard input: no step has a picture\n"),
+                    (2, b"", "zaklimot: standard input: no step has a picture\n"),
                 ),
             ),
         )
@@ -106,7 +103,7 @@ class Reports(Folder):
         wanted = png_rows((self.folder / "p/0003.png").read_bytes())[:2]
         self.assertGreater(wanted[1], 3)
         (self.folder / "image").write_bytes(OTHER)
-        for compared in ("compare one two", "compare-picture one 3 image"):
+        for compared in ("compare one two", "compare one image --step 3"):
             self.assertEqual(self.done(f"{compared} --picture m.png {words}")[0], 1)
             made = png_rows((self.folder / "m.png").read_bytes())[:2]
             self.assertEqual(made, wanted, compared)
@@ -131,62 +128,18 @@ class Reports(Folder):
         self.report("sums", "a\nb", f"picture 16 2x1 {32 * '0'}")
         status, _, said = self.done("pictures sums p")
         told = "sums:3: the picture is shown by its digest, and its dots are not in the file"
-        self.assertEqual((status, said), (2, f"vga-report: {told}\n"))
+        self.assertEqual((status, said), (2, f"zaklimot: {told}\n"))
 
     def test_a_damaged_report_is_compared_up_to_the_damage(self) -> None:
         self.write("bad", report("ok", "55") + b"3 ok\nmore\n")
         self.write("other", report("ok", "56", "ok", "ok"))
         differs = b"step 2 differs\n  bad:2: 55\n  other:2: 56\n"
-        told = "vga-report: bad:4: step 4 is to come, and not 'more'\n"
-        for words in ("--all", "--all --html o", "--all --picture o"):
+        told = "zaklimot: bad:4: step 4 is to come, and not 'more'\n"
+        for words in ("--all", "--all --picture o"):
             self.assertEqual(self.done(f"compare bad other {words}"), (2, differs, told))
             self.assertFalse((self.folder / "o").exists())
         # What stands behind the first step that differs isn't looked at without --all.
         self.assertEqual(self.done("compare bad other"), (1, differs, ""))
-
-    def test_the_columns_of_a_page_are_those_of_the_words(self) -> None:
-        self.assertEqual(self.done("compare one two --html page.html")[0], 1)
-        text = (self.folder / "page.html").read_text("utf-8")
-        self.assertEqual(
-            re.findall("<th>(.*?)</th>", text), ["step", "one", "two", "dots that differ"]
-        )
-        captions = re.findall("<figcaption>(.*?)</figcaption>", text)
-        self.assertEqual(captions, ["one", "two", "where they differ"])
-        cells = re.findall(r'<tr><td class="number">4</td><td>(.*?)</td><td>(.*?)</td>', text)
-        self.assertEqual(cells, [("55", "56")])
-
-    def test_answers_are_no_elements_of_a_page(self) -> None:
-        self.report("tag", "<b>&amp;")
-        self.report("quote", '"<i>"')
-        self.assertEqual(self.done("compare tag quote --html page.html")[0], 1)
-        text = (self.folder / "page.html").read_text("utf-8")
-        self.assertIn("<td>&lt;b&gt;&amp;amp;</td><td>&quot;&lt;i&gt;&quot;</td>", text)
-
-    def test_a_page_of_steps_that_differ(self) -> None:
-        for words, status, told, said in (
-            ("byte byte", 0, "byte and byte agree: ", "0 steps differ; 2 steps, 0 pictures"),
-            ("byte bytes", 1, "step 2 differs\n", "1 step differs; 2 steps, 0 pictures"),
-            ("one two", 1, "step 3 differs\n", "3 steps differ; 5 steps, 3 pictures"),
-        ):
-            done = self.done(f"compare {words} --html page.html")
-            self.assertEqual((done[0], done[1].decode().count(" differs\n")), (status, status))
-            self.assertTrue(done[1].decode().startswith(told))
-            text = (self.folder / "page.html").read_text("utf-8")
-            self.assertIn(said, text)
-            for name in words.split():
-                self.assertIn(f">{name}</th>", text)
-        self.assertEqual(self.done("compare one two --all --html p")[1].count(b" differs\n"), 3)
-
-    def test_a_page_has_bounds(self) -> None:
-        for name, most, told in (
-            ("MOST_ROWS", 2, "vga-report: the page would have more than 2 rows\n"),
-            ("MOST_PICTURES", 5, "vga-report: the page would have more than 5 pictures\n"),
-        ):
-            with mock.patch.object(page, name, most):
-                status, _, said = self.done("compare one two --html page.html")
-                self.assertEqual((status, said), (2, told))
-            with mock.patch.object(page, name, most + 1):
-                self.assertEqual(self.done("compare one two --html page.html")[0], 1)
 
     def test_a_picture_beside_an_image(self) -> None:
         (self.folder / "image").write_bytes(OTHER)
@@ -196,33 +149,33 @@ class Reports(Folder):
             self,
             self.done,
             (
-                ("compare-picture one 3 -", OTHER, (1, differ("standard input").encode(), "")),
+                ("compare one - --step 3", OTHER, (1, differ("standard input").encode(), "")),
                 (
-                    "compare-picture - 3 image",
+                    "compare - image --step 3",
                     (self.folder / "one").read_bytes(),
                     (1, differ("image").encode(), ""),
                 ),
                 # Nothing is written of pictures that agree.
                 (
-                    "compare-picture one 5 image --picture same.png",
+                    "compare one image --step 5 --picture same.png",
                     (
                         0,
                         b"step 5 and image agree: 2x1, six bits a component\n",
-                        "vga-report: no dots differ, so same.png isn't written\n",
+                        "zaklimot: no dots differ, so same.png isn't written\n",
                     ),
                 ),
             ),
         )
         self.assertFalse((self.folder / "same.png").exists())
-        self.done("compare-picture one 3 image --picture marked.png --scale 2")
+        self.done("compare one image --step 3 --picture marked.png --scale 2")
         marked = png_rows((self.folder / "marked.png").read_bytes())
         self.assertEqual(marked, (4, 2, [DARK * 2 + MARK * 2] * 2))
         # What is told stands beside a picture that goes to standard output.
-        status, written, said = self.done("compare-picture one 3 image --picture -")
+        status, written, said = self.done("compare one image --step 3 --picture -")
         self.assertEqual((status, said), (1, differ("image")))
         self.assertEqual(png_rows(written), (2, 1, [DARK + MARK]))
         hold_undone(
             self,
-            self.done("compare-picture one 4 image"),
-            "^vga-report: one: step 4 has no picture; there are 5 steps\n$",
+            self.done("compare one image --step 4"),
+            "^zaklimot: one: step 4 has no picture; there are 5 steps\n$",
         )

@@ -17,14 +17,13 @@ from pathlib import Path
 from unittest import mock
 
 from zaklimot.format import Answer
-from zaklimot_tools.core.progress import Progress
-from zaklimot_tools.report.expecting import is_as_expected
-from zaklimot_tools.report.listing import Blessing, Row, chosen
-from zaklimot_tools.report.words import parser
-from zaklimot_tools.script import program
+from zaklimot.commands.core.progress import Progress
+from zaklimot.commands.report.expecting import is_as_expected
+from zaklimot.commands.report.listing import Blessing, Row, chosen
+from zaklimot.commands.words import parser
 
 from .running import TEXT, Fake, run
-from .tools import TOP, ended, hold, hold_refused, hold_undone
+from .tools import TOP, ended, hold, hold_refused
 
 # Texts, the words of a run, its status, and what is told.
 DECODED = "               No part of the adapter decodes port 0{}.\n".format
@@ -96,19 +95,6 @@ RUNS: list[tuple[str, str, int, list[str]]] = [
         )
     ),
     ("; ======\n; = =\nout 3C2 1\n", "", 0, []),
-    # What differs as a diff.
-    (
-        "get 0 ; = 55 ; more\nin 3DA\n",
-        "--diff",
-        1,
-        [
-            (
-                "--- t.vga\n+++ t.vga as answered\n@@ -1,3 +1,3 @@\n-get 0 ; = 55 ; more\n+get 0 ;"
-                " = E6 ; more\n in 3DA\n \n"
-            ),
-        ],
-    ),
-    ("in 3DA\n", "--diff --strict", 1, ["\n+in 3DA ; = E1 NotDecoded\n"]),
     # A stopped run shows the state.
     *(
         (
@@ -129,7 +115,7 @@ RUNS: list[tuple[str, str, int, list[str]]] = [
         0,
         [
             (
-                "vga-report: t.vga: the file contains bytes, but has the name of a text. "
+                "zaklimot: t.vga: the file contains bytes, but has the name of a text. "
                 "If you named it twice, `vga asm` has written over the text\n"
             ),
         ],
@@ -139,9 +125,9 @@ RUNS: list[tuple[str, str, int, list[str]]] = [
             "VGAS\1\x0b",
             words,
             2,
-            ["vga-report: t.vga: a script of bytes has no comments for answers\n"],
+            ["zaklimot: t.vga: a script of bytes has no comments for answers\n"],
         )
-        for words in ("--diff", "--bless")
+        for words in ("--bless", "--bless --quiet")
     ),
     (
         "frame\nmove 1\n",
@@ -149,7 +135,7 @@ RUNS: list[tuple[str, str, int, list[str]]] = [
         2,
         [
             (
-                "vga-report: t.vga:2: F7 BadLine(2): there is no step 'move'; the steps are"
+                "zaklimot: t.vga:2: F7 BadLine(2): there is no step 'move'; the steps are"
                 f" {NAMES}\n  move 1\n  ^^^^\n"
             ),
         ],
@@ -163,7 +149,7 @@ class Listings(Fake):
         program = self.vga.read_text()
         self.vga.write_text(program.replace("for at in (1, 2, 3, 4)", "for at in (1, 2, 3)"))
         status, _, said = self.run_script("--until", "2")
-        told = f"vga-report: {self.path}: the report ends after 5 of 6 steps\n"
+        told = f"zaklimot: {self.path}: the report ends after 5 of 6 steps\n"
         self.assertEqual((status, said), (2, told))
 
     def test_the_front_of_an_answer(self) -> None:
@@ -262,7 +248,7 @@ class Listings(Fake):
             ],
         )
         message = (
-            "vga-report: --only has numbers of steps, as 10-20, and refused, read, pictures, dumps,"
+            "zaklimot: --only has numbers of steps, as 10-20, and refused, read, pictures, dumps,"
             " differs, and not 'x'\n"
         )
         self.assertEqual(self.run_script("--only", "x"), (2, "", message))
@@ -290,7 +276,7 @@ class Listings(Fake):
         status, _, said = self.run_script(path="-", given=b"move\n")
         self.assertEqual(
             (status, said.partition(": there")[0]),
-            (2, "vga-report: standard input:1: F7 BadLine(1)"),
+            (2, "zaklimot: standard input:1: F7 BadLine(1)"),
         )
         self.assertEqual(self.run_script(path=self.write("s.bin", b"VGAS\1\x0b"))[2], "")
 
@@ -299,24 +285,6 @@ class Listings(Fake):
         output = self.run_text("".join(f"in {port:X}\n" for port in ports))[1]
         told = [output.count(f" decodes port {port:X}.\n") for port in (0x400, 0x7E7, 0x7E8)]
         self.assertEqual(told, [1, 1, 2])
-
-    def test_what_is_lacking_for_a_build(self) -> None:
-        self.assertIn("## Build it\n", (TOP / "README.md").read_text("utf-8"))
-        none = self.folder / "none"
-        told = '^vga-report: rt: it is not in the path: .* "Build it"\\. Without it --vga runs a '
-        self.patch(
-            mock.patch.dict(os.environ, PATH=str(self.folder)),
-            mock.patch.object(program, "PROGRAM", none),
-        )
-        for words in ("--try", "--build"):
-            hold_undone(self, run("run", self.path, words), told)
-            # A release has no sources.
-            with mock.patch.object(program, "CRATE", none):
-                hold_undone(
-                    self,
-                    run("run", self.path, words),
-                    "the program's sources in Rattle are not here",
-                )
 
     def test_programs_that_do_not_do_it(self) -> None:
         good = self.vga.read_text().replace("import sys\n", "import os, sys\n", 1)
@@ -352,7 +320,7 @@ class Listings(Fake):
         ):
             self.program("vga", text)
             status, output, said = self.run_text(script)
-            self.assertEqual((status, said[: len(told) + 12]), (2, f"vga-report: {told}"))
+            self.assertEqual((status, said[: len(told) + 10]), (2, f"zaklimot: {told}"))
         self.assertIn("     4      2  GET A0000 ", output)
         self.assertEqual(
             (self.run_script("--until", "2")[0], self.run_text("; no step\n")[0]), (0, 0)
@@ -398,20 +366,8 @@ class Listings(Fake):
             ),
         )
 
-    def test_what_would_be_written_in_is_shown_as_a_diff(self) -> None:
-        text = "get 0\nget 1 ; = 55\nget 2 ; = *\n"
-        status, told, left = self.blessed(text, "--diff")
-        self.assertEqual((status, left), (0, text))
-        changes = [line for line in told.splitlines()[3:] if line[0] in "+-"]
-        wanted = ["-get 0", "-get 1 ; = 55", "+get 0 ; = E6", "+get 1 ; = E6"]
-        self.assertEqual(changes, wanted)
-        # Without --bless an answer that nothing expects is none that differs.
-        status, told, _ = self.run_text(text, "--diff")
-        self.assertEqual(status, 1)
-        self.assertNotIn("get 0 ; = E6", told)
-
     def test_a_step_that_answers_otherwise_when_it_is_repeated(self) -> None:
-        blessing = Blessing(b"version 2\nrepeat 2\nget 0\nend\n", True)
+        blessing = Blessing(b"version 2\nrepeat 2\nget 0\nend\n")
         for answer in ("55", "66"):
             blessing.take(Row(Answer(1, 1, answer), "get 0", 3, None, (), "", False))
         self.assertEqual(blessing.text(), "version 2\nrepeat 2\nget 0 ; = *\nend\n")
@@ -422,7 +378,7 @@ class Listings(Fake):
             block = f"version 2\nrepeat 2\n{front}out 3D4 0E\n{behind}end\n"
             lines = block.splitlines()
             for answers in (("ok", "E1 NotDecoded"), ("E1 NotDecoded", "ok")):
-                blessing = Blessing(f"{block}get 0\n".encode(), True)
+                blessing = Blessing(f"{block}get 0\n".encode())
                 for answer in answers:
                     for number, line in enumerate(lines[2:-1], 3):
                         told = answer if line.startswith("out") else "55"
@@ -432,7 +388,7 @@ class Listings(Fake):
                 self.assertEqual(blessing.text(), f"{wanted}get 0 ; = 66\n")
 
     def test_of_a_dump_that_is_another_one_each_time_no_lines_are_written(self) -> None:
-        blessing = Blessing(b"version 2\nrepeat 2\nshow regs\n;| old\nend\n", True)
+        blessing = Blessing(b"version 2\nrepeat 2\nshow regs\n;| old\nend\n")
         for last in ("b", "c"):
             blessing.take(Row(Answer(1, 1, "a", (last,)), "show regs", 3))
         self.assertEqual(blessing.text(), "version 2\nrepeat 2\nshow regs ; = *\nend\n")
@@ -448,11 +404,8 @@ class Listings(Fake):
         other = whole.replace(";| b", ";| c")
         status, output, _ = self.run_text(other, "--quiet")
         self.assertEqual((status, output.split("6c: ")[1].splitlines()[0]), (1, "'b', not 'c'"))
-        counts = [
-            self.run_text(other, word)[1].count("\n-;| c\n+;| b\n")
-            for word in ("--diff", "--bless")
-        ]
-        self.assertEqual((counts, (self.folder / "t.vga").read_text()), ([1, 0], whole))
+        self.run_text(other, "--bless")
+        self.assertEqual((self.folder / "t.vga").read_text(), whole)
 
     def test_lines_of_a_dump_end_as_that_of_its_step(self) -> None:
         text = "show regs ; more\r\n;| old\r\nget 0 ; = E6\n"
@@ -513,7 +466,7 @@ class Calls(Fake):
         return sum(entry.callcount for entry in profile.getstats())  # type: ignore[attr-defined]
 
     def test_of_a_step(self) -> None:
-        with mock.patch("zaklimot_tools.report.listing._wait_for") as waited:
+        with mock.patch("zaklimot.commands.report.listing._wait_for") as waited:
             self.calls("get 0\n")
         waited.assert_called_once()
         for line in ("out 3c4 2\n", "put b8000 55\n", "get 0 ; a comment\n", "in 3da\n"):

@@ -10,14 +10,14 @@ from typing import Any
 from unittest import mock
 
 from zaklimot.format import Block, Step, decode, encoded
-from zaklimot_tools.core.progress import Progress
-from zaklimot_tools.script.words import FONTS
-from zaklimot_tools.trace import converting, replaying
-from zaklimot_tools.trace.note import Note, kept_parts, note_of, told_of_beam
-from zaklimot_tools.trace.parts import Parts
-from zaklimot_tools.trace.rebuilding import steps_behind
-from zaklimot_tools.trace.replaying import Replay, replay
-from zaklimot_tools.trace.step import ADVANCE, GET, IN, OUT, TraceStep
+from zaklimot.commands.core.progress import Progress
+from zaklimot.commands.script.words import FONTS
+from zaklimot.commands.trace import converting, replaying
+from zaklimot.commands.trace.note import Note, kept_parts, note_of, told_of_beam
+from zaklimot.commands.trace.parts import Parts
+from zaklimot.commands.trace.rebuilding import steps_behind
+from zaklimot.commands.trace.replaying import Replay, replay
+from zaklimot.commands.trace.step import ADVANCE, GET, IN, OUT, TraceStep
 
 from .tools import PROGRAM, Folder, hold, refused, run_program, want_program
 from .tracing import qemu
@@ -190,7 +190,9 @@ class Notes(Folder):
         front = "it reads input status 1 up to 1,000 times within a frame: what changes within a"
         self.assertEqual([line[: len(front)] for line in told(1000)], [front])
         self.assertIn("is lost. Record with --beam", told(1000)[0])
-        self.assertIn("`vga-trace pictures FOLDER --beam` draws it", told(1000, has_beam=True)[0])
+        self.assertIn(
+            "`zaklimot trace pictures FOLDER --beam` draws it", told(1000, has_beam=True)[0]
+        )
 
     def test_why_a_recording_ended(self) -> None:
         """It was ended, unless it is known why; a trace that can't be kept is told in any case."""

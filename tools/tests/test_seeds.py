@@ -4,7 +4,7 @@ number find it again."""
 import json
 import unittest
 
-from zaklimot_tools.steps.kinds import KINDS
+from zaklimot.commands.steps.kinds import KINDS
 
 from . import digests
 from .tools import takes_long

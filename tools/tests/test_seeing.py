@@ -12,17 +12,16 @@ from pathlib import Path
 from unittest import mock
 
 from zaklimot.format import HEADERS, Answer, Step
-from zaklimot_tools.core.progress import Progress
-from zaklimot_tools.script.words import FONTS
-from zaklimot_tools.trace import walking
-from zaklimot_tools.trace.cells import cells_of, code_page, entry_of, look_of, text_of
-from zaklimot_tools.trace.colourfiles import starts_of_pages
-from zaklimot_tools.trace.finding import Finder
-from zaklimot_tools.trace.rebuilding import steps_behind
-from zaklimot_tools.trace.step import IN, TraceStep
-from zaklimot_tools.trace.told import Told, state_asked
-from zaklimot_tools.trace.trace import SCREEN, Call
-from zaklimot_tools.trace.walking import Item, Question, Walk
+from zaklimot.commands.core.progress import Progress
+from zaklimot.commands.script.words import FONTS
+from zaklimot.commands.trace import walking
+from zaklimot.commands.trace.cells import cells_of, code_page, entry_of, look_of, text_of
+from zaklimot.commands.trace.finding import Finder
+from zaklimot.commands.trace.rebuilding import steps_behind
+from zaklimot.commands.trace.step import IN, TraceStep
+from zaklimot.commands.trace.told import Told, state_asked
+from zaklimot.commands.trace.trace import SCREEN, Call
+from zaklimot.commands.trace.walking import Item, Question, Walk
 
 from .tools import (
     EXAMPLES,
@@ -69,7 +68,8 @@ class Seen(Folder):
 
     def run_command(self, name: str, *words: str | Path) -> tuple[int, str, str]:
         """Exit status, output as text, and what is said."""
-        status, output, said = run_tool("vga-trace", name, *words, "--vga", PROGRAM)
+        command = (name,) if name == "compare" else ("trace", name)
+        status, output, said = run_tool("zaklimot", *command, *words, "--vga", PROGRAM)
         return status, output.decode(), said
 
     def done(self, name: str, *words: str | Path) -> str:
@@ -167,16 +167,19 @@ class Text(Seen):
     def test_a_wrong_trace(self) -> None:
         for data, told in (
             (b"", "it has no cycle, neither of qemu's log nor of the plain form"),
-            (b"PK\3\4 cut", "it is no whole ZIP"),
             (b"\x1f\x8b\x08 cut", "compressed bytes are damaged|ended before"),
             (b"0 w p 3C2 67", "it has no cycle"),
             (b"0 w p 3C2 67 1\nnonsense\n", ":2: it is no cycle"),
         ):
             with self.subTest(data):
                 trace = self.write("wrong", data)
-                for command in (["text"], ["palette"], ["font"], ["screen"]):
-                    words = [] if command == ["text"] else ["-"]
-                    hold_undone(self, self.run_command(*command, trace, *words), told)
+                for words in (("text", trace), ("pictures", trace, "--png", "-")):
+                    hold_undone(self, self.run_command(*words), told)
+        # It is told by the name that was typed.
+        for words in (("text", "none"), ("pictures", "none", "--png", "-")):
+            hold_undone(
+                self, self.run_command(*words), "^zaklimot: none: No such file or directory$"
+            )
 
 
 class Walked(Folder):
@@ -327,172 +330,43 @@ class Walked(Folder):
             for bits in (0x05, 0x0D):
                 self.assertEqual(entry_of(state, bits), wanted, (control, index, mask))
 
-    def test_starts_of_pages(self) -> None:
-        for mode, wanted in (
-            (0x03, [0x800 * at for at in range(8)]),
-            (0x0D, [0x2000 * at for at in range(8)]),
-            (0x10, [0, 0x8000]),
-            (0x12, [0]),
-            (0x13, [0]),
-        ):
-            state = self.told(call(mode, 0, 0, 0)).state
-            self.assertEqual(starts_of_pages(state), wanted, mode)
-            state.crtc.registers[0x0D] = 7
-            self.assertEqual(starts_of_pages(state), sorted([*wanted, 7]))
-        # A last row of which a part is shown is one of the page.
-        state = self.told(call(3, 0, 0, 0)).state
-        state.crtc.registers[0x12] += 1
-        self.assertEqual(starts_of_pages(state), [0x1000 * at for at in range(4)])
-
 
 class Files(Seen):
-    def test_palettes(self) -> None:
-        for name in ("a.gpl", "a.pal"):
-            self.assertEqual(self.done("palette", self.calls, self.folder / name), "")
-        gimp = (self.folder / "a.gpl").read_text().splitlines()
-        self.assertEqual((gimp[0], gimp[3], len(gimp)), ("GIMP Palette", "#", 260))
-        # The last mode set has taken the colour back: entry 07 is grey.
-        self.assertEqual(gimp[4 + 7], "170 170 170\tDAC 07")
-        jasc = (self.folder / "a.pal").read_bytes().split(b"\r\n")
-        self.assertEqual(jasc[:3] + jasc[-1:], [b"JASC-PAL", b"0100", b"256", b""])
-        self.assertEqual((len(jasc), jasc[3 + 7]), (260, b"170 170 170"))
-        told = self.done("palette", self.calls, "-", "--at", "1").splitlines()
-        self.assertEqual(told[4 + 7], "255  85  40\tDAC 07")
-        hold_undone(
-            self, self.run_command("palette", self.calls, "a.png"), r"ends in \.gpl or \.pal"
-        )
-
-    def test_fonts(self) -> None:
-        for name in ("a.psf", "a.bdf"):
-            self.done("font", self.calls, self.folder / name, "--at", "1")
-        glyphs = FONTS.read_bytes()[256 * 22 :]
-        data = (self.folder / "a.psf").read_bytes()
-        self.assertEqual(data[:4], b"\x72\xb5\x4a\x86")
-        head = [int.from_bytes(data[at : at + 4], "little") for at in range(4, 32, 4)]
-        self.assertEqual(head, [0, 32, 1, 256, 16, 16, 8])
-        self.assertEqual(data[32 : 32 + 4096], glyphs)
-        names = data[32 + 4096 :].split(b"\xff")
-        self.assertEqual((len(names), names[0], names[0x41]), (257, b"", b"A"))
-        self.assertEqual(names[1].decode(), "\u263a")
-        lines = (self.folder / "a.bdf").read_text().splitlines()
-        self.assertEqual((lines[0], lines[-1]), ("STARTFONT 2.1", "ENDFONT"))
-        at = lines.index("STARTCHAR U+0041")
-        # 8 dots are half of 16 lines, in thousandths.
-        self.assertEqual(lines[at + 1 : at + 4], ["ENCODING 65", "SWIDTH 500 0", "DWIDTH 8 0"])
-        bitmap = "".join(lines[at + 6 : at + 22])
-        self.assertEqual(bytes.fromhex(bitmap), glyphs[16 * 0x41 : 16 * 0x42])
-        codes = [int(line.split()[1]) for line in lines if line.startswith("ENCODING ")]
-        self.assertEqual((len(codes), codes), (255, sorted(set(codes))))
-        self.assertIn(f"CHARS {len(codes)}", lines)
-
-    def test_fonts_of_another_map_and_of_graphics(self) -> None:
-        hold_undone(
-            self,
-            self.run_command("font", self.calls, "a.psf"),
-            "shows graphics then, which have no glyphs: --height gives them one",
-        )
-        for number, begin in ((0, 0), (1, 0x4000), (4, 0x2000), (7, 0xE000)):
-            writes = b"0 w p 3C4 0402 2\n0 w p 3C4 0604 2\n0 w p 3CE 0406 2\n0 w p 3CE FF08 2\n"
-            # Characters have map 2, which is none of those that are asked for.
-            writes += b"0 w p 3C4 0A03 2\n"
-            byte = f"0 w m {0xA0000 + begin + 32 * 0x41 + 1:X} A5 1\n".encode()
-            trace = self.write("map", b"0 w p 3C2 67 1\n" + writes + byte)
-            words = ("--map", str(number), "--height", "2")
-            self.done("font", trace, self.folder / "b.psf", *words)
-            data = (self.folder / "b.psf").read_bytes()
-            self.assertEqual(data[32 + 2 * 0x41 : 32 + 2 * 0x42], b"\x00\xa5", number)
-
-    @unittest.skipUnless(shutil.which("bdf2psf"), "bdf2psf is not here")
-    def test_bdf2psf_takes_it(self) -> None:
-        share = Path("/usr/share/bdf2psf")
-        bdf = self.folder / "a.bdf"
-        self.done("font", self.calls, bdf, "--at", "1")
-        made = self.folder / "made.psf"
-        words: list[str | Path] = [
-            "bdf2psf",
-            "--fb",
-            bdf,
-            share / "standard.equivalents",
-            share / "ascii.set",
-        ]
-        subprocess.run([*words, "256", made], check=True, capture_output=True)
-        glyphs = FONTS.read_bytes()[256 * 22 :]
-        self.assertIn(glyphs[16 * 0x41 : 16 * 0x5B], made.read_bytes())
-
-    def test_screens_pages_and_planes(self) -> None:
-        out = self.folder / "out.png"
-        words = ("--pages", self.folder / "pages", "--planes", self.folder / "planes")
-        told = self.done("screen", self.calls, out, "--at", "2.5", *words).splitlines()
-        self.assertEqual((told[0], len(told)), (str(out), 1 + 8 + 4))
-        shown = out.read_bytes()
-        self.assertEqual(png_rows(shown)[:2], (720, 400))
-        pages = {path.name: path.read_bytes() for path in (self.folder / "pages").iterdir()}
-        self.assertEqual(sorted(pages), [f"page-{0x800 * at:04X}.png" for at in range(8)])
-        alike = [name for name, data in pages.items() if png_rows(data) == png_rows(shown)]
-        self.assertEqual(alike, ["page-0800.png"])
-        first = self.folder / "first.png"
-        self.done("screen", self.calls, first, "--at", "1.5")
-        self.assertEqual(png_rows(pages["page-0000.png"]), png_rows(first.read_bytes()))
-        planes = [
-            png_rows((self.folder / "planes" / f"plane-{number}.png").read_bytes())
-            for number in range(4)
-        ]
-        self.assertEqual(
-            [one[:2] for one in planes], [(1280, 410), (1280, 410), (512, 1024)] + [planes[3][:2]]
-        )
-        # The smiling face of page 0, and the glyph of A.
-        self.assertEqual(planes[0][2][0][:24].hex(), "00" * 21 + "ff" * 3)
-        glyph = FONTS.read_bytes()[256 * 22 + 16 * 0x41 :][:16]
-        row = bytes(
-            planes[2][2][32 + at][3 * 8 + 3 * bit] & 1 for at in range(16) for bit in range(8)
-        )
-        bits = "".join(f"{line:08b}" for line in glyph)
-        self.assertEqual("".join(map(str, row)), bits)
-
-    def test_blinking_text_is_the_same_on_each_page(self) -> None:
-        # Without a cursor, which is on one page alone.
-        cells = b"".join(b"2 w m %X 9C41 2\n" % (0xB8000 + 0x1000 * page) for page in range(8))
-        trace = self.write("blinking", b"0 int 3 0 0 0\n1 int 0100 0 2000 0\n" + cells)
-        self.done("screen", trace, "--pages", self.folder / "pages")
-        pages = [png_rows(path.read_bytes()) for path in (self.folder / "pages").iterdir()]
-        self.assertEqual((len(pages), pages), (8, pages[:1] * 8))
-
-    def test_planes_of_256_colours(self) -> None:
-        trace = self.write("mode13", b"0 int 13 0 0 0\n1 w m A0002 0C 1\n")
-        self.done("screen", trace, "--planes", self.folder / "planes")
-        width, height, rows = png_rows((self.folder / "planes" / "plane-2.png").read_bytes())
-        self.assertEqual((width, height), (320, 205))
-        self.assertEqual(rows[0][:6], bytes([255, 85, 85, 0, 0, 0]))
-
     def test_a_screen_has_the_shape_of_a_monitor(self) -> None:
         out = self.folder / "out.png"
-        self.done("screen", TYPED, out, "--aspect", "--scale", "2")
+        self.done("pictures", TYPED, "--png", out, "--aspect", "--scale", "2")
         self.assertEqual(png_rows(out.read_bytes())[:2], (1440, 1080))
-        status, _, said = self.run_command("screen", TYPED)
-        self.assertEqual(status, 2)
-        self.assertIn("name a file for the picture, or a folder by --pages or --planes", said)
+
+    def test_a_moment_has_one_picture(self) -> None:
+        told = "^zaklimot: --png writes one picture: without a folder, --apng, --video, --beam"
+        for words in (("--apng", "o"), ("o",), ("--beam",), ("--to", "9"), ("--from", "2")):
+            hold_undone(self, self.run_command("pictures", TYPED, "--png", "p", *words), told)
+        done = self.run_command("pictures", TYPED, "folder", "--at", "1")
+        hold_undone(self, done, "^zaklimot: --at is for --png, which writes the picture of one")
 
 
 class Found(Seen):
     def test_when_and_where(self) -> None:
-        lines = self.done("find", self.calls, "BC").splitlines()
+        lines = self.done("text", self.calls, "--find", "BC").splitlines()
         self.assertEqual(lines, [" seconds  row  column  text", "   0.001    1       6  ABC"])
         self.assertEqual(
-            self.done("find", self.calls, "xy", "--any-case").splitlines()[1],
+            self.done("text", self.calls, "--find", "xy", "--any-case").splitlines()[1],
             "   2.001    2       3  XY",
         )
-        status, output, said = self.run_command("find", self.calls, "xy")
+        status, output, said = self.run_command("text", self.calls, "--find", "xy")
         wanted = f"{self.calls}: no screen of text shows it\n"
         self.assertEqual((status, output, said), (1, wanted, ""))
-        told = self.done("find", TYPED, "typed this").splitlines()[1]
+        told = self.done("text", TYPED, "--find", "typed this").splitlines()[1]
         at = told.split()[0]
         self.assertIn("typed this", self.done("text", TYPED, "--at", at))
         self.assertEqual(told.split()[1:3], ["12", "27"])
 
     def test_what_is_no_question(self) -> None:
-        self.assertEqual(self.run_command("find", TYPED, " ")[0], 2)
+        self.assertEqual(self.run_command("text", TYPED, "--find", " ")[0], 2)
         untimed = self.write("untimed", b"- w p 3C2 67 1\n")
-        hold_undone(self, self.run_command("find", untimed, "a"), "the first cycle has no time")
+        hold_undone(
+            self, self.run_command("text", untimed, "--find", "a"), "the first cycle has no time"
+        )
 
     def test_bytes_and_words_of_memory(self) -> None:
         for size, values in ((1, ("48", "49")), (2, ("0748", "0749"))):
@@ -501,19 +375,19 @@ class Found(Seen):
                 time, address = 40_000 * (at + 1), 0xB8F00 + 2 * at
                 lines.append(f"{time} w m {address:X} {value} {size}\n".encode())
             trace = self.write("memory", b"".join(lines))
-            told = self.done("find", trace, "HI").splitlines()[1]
+            told = self.done("text", trace, "--find", "HI").splitlines()[1]
             self.assertEqual(told.split(), ["0.080", "24", "0", "HI"], size)
 
     def test_a_word_across_two_blocks(self) -> None:
         # The attribute of the cell before, and a letter in the next block of 256 bytes.
         word = b"0 int 3 0 0 0\n20000 w p 3C9 7 1\n40000 w m B80FF 4807 2\n"
-        told = self.done("find", self.write("across", word), "H").splitlines()[1]
+        told = self.done("text", self.write("across", word), "--find", "H").splitlines()[1]
         self.assertEqual(told.split(), ["0.040", "1", "48", "H"])
 
     def test_many_places(self) -> None:
         text = b"".join(b"%d int 0E41 7 0 0\n" % (20_000 * at) for at in range(1, 9))
         trace = self.write("many", b"0 int 3 0 0 0\n" + text)
-        lines = self.done("find", trace, "A", "--most", "3").splitlines()
+        lines = self.done("text", trace, "--find", "A", "--most", "3").splitlines()
         self.assertEqual((len(lines), lines[-1]), (5, "5 more"))
         self.assertEqual([line.split()[2] for line in lines[1:4]], ["0", "1", "2"])
 

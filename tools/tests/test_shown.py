@@ -4,20 +4,19 @@ from __future__ import annotations
 
 import json
 import os
-import signal
 import sys
 import unittest
 from unittest import mock
 from xml.etree import ElementTree
 
 from zaklimot.format import Answer, Picture
-from zaklimot_tools.report.expecting import is_as_expected
-from zaklimot_tools.report.listing import Row, chosen
-from zaklimot_tools.report.modes import StepList
-from zaklimot_tools.report.words import parser
+from zaklimot.commands.report.expecting import is_as_expected
+from zaklimot.commands.report.listing import Row, chosen
+from zaklimot.commands.report.modes import StepList
+from zaklimot.commands.words import parser
 
 from .running import Fake
-from .tools import PROGRAM, RED, begin, hold, hold_refused, png_rows, run_tool, want_program
+from .tools import PROGRAM, RED, hold, hold_refused, png_rows, run_tool, want_program
 
 # What the fake program's frame answers, and its dump of two lines.
 DIGEST = "cc3cef99328e895f73a6088030faaab2"
@@ -106,8 +105,6 @@ class Together(Fake):
                 ("--only", "3-4", "--quiet", ["0003.png", "0004.png"]),
                 ("--only", "differs", "--json", "-", ["0004.png"]),
                 # They are written beside what is told of answers, too.
-                ("--diff", all_of_them),
-                ("--only", "1", "--diff", ["0001.png"]),
                 ("--bless", all_of_them),
             ),
         )
@@ -142,7 +139,7 @@ class Together(Fake):
             tally = mock.Mock(pictures=pictures, differing=lambda: ())
             with (
                 mock.patch("sys.stdout.isatty", lambda: is_terminal),
-                mock.patch("zaklimot_tools.report.modes.say") as say,
+                mock.patch("zaklimot.commands.report.modes.say") as say,
                 mock.patch.dict(os.environ, COLORTERM=colours),
             ):
                 StepList(words, mock.Mock(), mock.Mock()).end(tally)
@@ -152,7 +149,7 @@ class Together(Fake):
         words = parser().parse_args(["run", "s.vga"])
         told: list[str] = []
         progress = mock.Mock(is_wanted=True, clear=lambda: told.append("cleared"))
-        with mock.patch("zaklimot_tools.report.modes.write", told.append):
+        with mock.patch("zaklimot.commands.report.modes.write", told.append):
             shown = StepList(words, told.append, progress)
             shown.begin(18)
             for at in (1, 2):
@@ -243,7 +240,7 @@ class Together(Fake):
         data = bytes.fromhex("5647415301 01C20363 03CC03 0B")
         words = ("run", self.write("s.bin", data), "--vga", PROGRAM)
         self.assertEqual(
-            run_tool("vga-report", *words),
+            run_tool("zaklimot", *words),
             (
                 0,
                 (
@@ -267,7 +264,7 @@ class Stopped(Fake):
         path = self.write("one.vga", "out 3C2 63\n")
         for until, misc, steps in (("0", "misc 00", 4), ("1", "misc 63", 5), ("9", "misc 63", 5)):
             words = ("run", path, "--vga", PROGRAM, "--until", until)
-            status, told, said = run_tool("vga-report", *words)
+            status, told, said = run_tool("zaklimot", *words)
             self.assertEqual((status, said), (0, ""))
             self.assertIn(f"show regs           {misc}\n", told.decode())
             self.assertTrue(told.decode().endswith(f"\n{steps} steps, 0 pictures\n"), told)
@@ -276,10 +273,10 @@ class Stopped(Fake):
         want_program()
         for name, data in (("t.vga", b"; nothing\n"), ("empty.vga", b""), ("t.bin", b"VGAS\x01")):
             words = ("run", self.write(name, data), "--vga", PROGRAM, "--pictures", "none")
-            done = run_tool("vga-report", *words, prepare=lambda: os.chdir(self.folder))
+            done = run_tool("zaklimot", *words, prepare=lambda: os.chdir(self.folder))
             self.assertEqual(done, (0, b"0 steps, 0 pictures\n", ""), name)
         # The state of bytes is as that of a text.
-        told = run_tool("vga-report", *words[:4], "--until", "3")[1].decode().splitlines()
+        told = run_tool("zaklimot", *words[:4], "--until", "3")[1].decode().splitlines()
         self.assertEqual([line.split()[:3] for line in told[1:2]], [["1", "show", "regs"]])
         self.assertEqual(told[-1], "4 steps, 0 pictures")
 
@@ -414,7 +411,7 @@ class Machines(Fake):
         self.assertAlmostEqual(times[0], sum(times[1:]), delta=0.003)
         # What keeps a script from being run, and not what it has written until then.
         self.assertRegex(
-            suite[1][0].get("message") or "", "^vga-report: tests/b.vga:1: F7 BadLine.1.: there is"
+            suite[1][0].get("message") or "", "^zaklimot: tests/b.vga:1: F7 BadLine.1.: there is"
         )
         told = "tests/c.vga:1: step 1: GET 0 answers E6, not 5"
         self.assertEqual(suite[2][0].get("message"), told)
@@ -425,48 +422,3 @@ class Machines(Fake):
         told = f"{path}:1: step 1: GET 0 answers E6, not ?[2J<?"
         self.assertEqual(case[0].get("message"), told)
         self.assertTrue((case[0].text or "").startswith(f"{told}\n"))
-
-
-@unittest.skipIf(sys.platform == "win32", "a script is a program on POSIX")
-class Watched(Fake):
-    def test_a_folder_runs_again_when_a_script_of_it_changes_or_comes(self) -> None:
-        tests = self.folder / "tests"
-        a = self.write("tests/a.vga", "get 0\n")
-        words = ("run", tests, "--vga", self.vga, "--watch", "--fonts", self.write("fonts", ""))
-        process = begin("vga-report", *words, text=True)
-        assert process.stdout is not None and process.stderr is not None
-        with process.stdout as output, process.stderr:
-            self.addCleanup(process.wait)
-            self.addCleanup(process.kill)
-            one = f"{a}: 1 step, 0 pictures\n"
-            self.assertEqual([next(output), next(output)], [one, "1 script, 0 differ\n"])
-            # In its place, at once.
-            with open(a, "r+b", buffering=0) as stream:
-                stream.write(b"get 1\n")
-            told = [next(output) for _ in range(3)]
-            self.assertEqual(told, [f"{a} has changed\n", one, "1 script, 0 differ\n"])
-            os.rename(self.write("new", "get 0\n"), tests / "b.vga")
-            told = [next(output) for _ in range(4)]
-            other = one.replace("a.vga", "b.vga")
-            wanted = [f"{tests} has changed\n", one, other, "2 scripts, 0 differ\n"]
-            self.assertEqual(told, wanted)
-            process.send_signal(signal.SIGINT)
-            self.assertEqual(process.wait(60), 130)
-
-    def test_a_change_while_a_script_runs_has_it_run_again(self) -> None:
-        # The first run adds a step to the script, which it doesn't take.
-        added = self.folder / "added"
-        self.begin_program(
-            f"import os\nif not os.path.exists({str(added)!r}):\n"
-            f"    open({str(added)!r}, 'x')\n    open({self.path!r}, 'a').write('get 0\\n')\n"
-        )
-        told = self.folder / "told"
-        with open(told, "wb") as stream:
-            words = ("run", self.path, "--vga", self.vga, "--quiet", "--watch")
-            process = begin("vga-report", *words, stdout=stream)
-        self.addCleanup(process.wait)
-        self.addCleanup(process.kill)
-        assert process.stderr is not None
-        with process.stderr:
-            wanted = f"{self.path} has changed\n{self.path}: 7 steps, "
-            self.wait_until(lambda: wanted in told.read_text(), process)

@@ -10,14 +10,14 @@ from types import SimpleNamespace
 from typing import Any, Optional
 from unittest import mock
 
-from zaklimot_tools.dev.emulators import traces
-from zaklimot_tools.dev.emulators.traces import SOFTWARE, Software, TableRow
-from zaklimot_tools.dev.emulators.words import SOFTWARE as NAMES
-from zaklimot_tools.explain.faults import script_of
-from zaklimot_tools.floppy.image import image_for
-from zaklimot_tools.report.places import SUITE
-from zaklimot_tools.trace.parts import TRACE
-from zaklimot_tools.trace.recording import QemuMachine
+from zaklimot_dev.emulators import traces
+from zaklimot_dev.emulators.traces import SOFTWARE, Software, TableRow
+from zaklimot_dev.emulators.words import SOFTWARE as NAMES
+from zaklimot.commands.explain.faults import script_of
+from zaklimot.commands.floppy.image import image_for
+from zaklimot.commands.report.places import SUITE
+from zaklimot.commands.trace.parts import TRACE
+from zaklimot.commands.trace.recording import QemuMachine
 
 from .tools import Folder, call, hold_undone, main_of, patched, refused
 

@@ -12,15 +12,15 @@ import unittest
 from pathlib import Path
 from unittest import mock
 
-from zaklimot_tools import starting
+from zaklimot.commands import starting
 
-from .tools import MAIN, NAMES, TOOLS, Folder, ended
+from .tools import MAIN, MODULES, NAMES, TOOLS, TOP, Folder, ended, path_of
 
 # Seconds after which Ctrl-C comes: from before the shell has begun until after Python has.
 MOMENTS = [number / 50 for number in range(20)]
 BLOCKING = ("env", "--block-signal=INT", "true")
 # A tool that waits for its input.
-WAITING = (TOOLS / "vga-report", "text", "-")
+WAITING = (TOP / "zaklimot", "pictures", "-", "-")
 
 
 def _blocks() -> bool:
@@ -70,41 +70,47 @@ class Starting(Folder):
         """It waits for Python, and no longer."""
         shown = "import signal; print(signal.pthread_sigmask(signal.SIG_BLOCK, []))"
         module = self.write("shown.py", f"def main() -> int:\n    {shown}\n    return 0\n")
-        tool = self.write("tool", (TOOLS / "vga-steps").read_text("ascii"))
+        tool = self.write("tool", (TOOLS / "vga-page").read_text("ascii"))
         text = re.sub(r'start\("[\w.]+"\)', 'start("shown")', Path(tool).read_text("ascii"))
         os.chmod(self.write("tool", text), 0o755)
-        given = {**os.environ, "PYTHONPATH": f"{Path(module).parent}:{TOOLS}"}
+        given = {**os.environ, "PYTHONPATH": f"{Path(module).parent}:{MODULES}"}
         self.assertEqual(ended(tool, env=given), (0, "set()\n", ""))
 
     def test_an_env_that_lets_no_signal_wait(self) -> None:
         old = shutil.which("env")
         self.program("bin/env", f'#!/bin/sh\ncase "$1" in -*) exit 125;; esac\nexec {old} "$@"\n')
         given = {**os.environ, "PATH": f"{self.folder / 'bin'}:{os.environ['PATH']}"}
-        status, output, said = ended(TOOLS / "vga-steps", "kinds", env=given)
+        status, output, said = ended(TOP / "zaklimot", "steps", "kinds", env=given)
         self.assertEqual((status, said), (0, ""))
         self.assertIn("write-mode-0-planar ", output)
 
     def test_words_pass_as_they_are(self) -> None:
-        status, _, said = ended(TOOLS / "vga-report", "text", "a  $b \"c'")
-        self.assertEqual((status, said), (2, "vga-report: a  $b \"c': No such file or directory\n"))
+        status, _, said = ended(TOP / "zaklimot", "pictures", "a  $b \"c'", "-")
+        self.assertEqual((status, said), (2, "zaklimot: a  $b \"c': No such file or directory\n"))
 
-    def test_the_commands_of_pip_are_the_tools_of_their_names(self) -> None:
-        text = (TOOLS / "pyproject.toml").read_text("ascii")
-        listed = re.findall(r'^(vga-\w+) = "zaklimot_tools\.starting:(\w+)"$', text, re.M)
-        self.assertEqual(len(listed), 5)
-        for name, function in listed:
-            with mock.patch.object(starting, "start", return_value=7) as start:
-                self.assertEqual(getattr(starting, function)(), 7)
-            found = MAIN.search((TOOLS / name).read_text("ascii"))
-            assert found is not None
-            start.assert_called_once_with(found[1])
+    def test_the_command_of_pip_is_that_of_the_clone(self) -> None:
+        text = (TOP / "python" / "pyproject.toml").read_text("ascii")
+        self.assertIn('\nzaklimot = "zaklimot.commands.starting:zaklimot"\n', text)
+        with mock.patch.object(starting, "start", return_value=7) as start:
+            self.assertEqual(starting.zaklimot(), 7)
+        found = MAIN.search(path_of("zaklimot").read_text("ascii"))
+        assert found is not None
+        start.assert_called_once_with(found[1])
+
+    def test_an_older_python_gets_one_sentence(self) -> None:
+        self.write("sitecustomize.py", "import sys\nsys.version_info = (3, 8, 18)\n")
+        with mock.patch.dict(os.environ, PYTHONPATH=str(self.folder)):
+            done = ended(path_of("zaklimot"), "--help")
+        told = "this needs Python 3.9 or later, not 3.8\n"
+        self.assertEqual(done, (2, "", told))
 
     def test_all_begin_alike(self) -> None:
         begun = set()
         for name in (*NAMES, "vga"):
-            lines = (TOOLS / name).read_text("ascii").splitlines()
+            text = path_of(name).read_text("ascii")
+            lines = text.replace('"/../python"', '"/python"').splitlines()
             self.assertRegex(lines[2], "^# [A-Z]")
             self.assertTrue(lines[-1].startswith('raise SystemExit(start("'), name)
             begun.add("\n".join([*lines[:2], *lines[3:-1]]))
-            self.assertTrue(os.access(TOOLS / name, os.X_OK), name)
+            self.assertTrue(os.access(path_of(name), os.X_OK), name)
         self.assertEqual(len(begun), 1)

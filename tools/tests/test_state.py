@@ -10,13 +10,13 @@ from unittest import mock
 
 import zaklimot
 from zaklimot.format import HEADERS, Block, Picture, Script, Step, encode
-from zaklimot_tools.explain.banks import FrameShape
-from zaklimot_tools.report.report import Report
-from zaklimot_tools.script.words import FONTS
-from zaklimot_tools.trace import rebuilding
-from zaklimot_tools.trace.rebuilding import Follower, steps_behind
-from zaklimot_tools.trace.state import Beam, BeamPlace, State
-from zaklimot_tools.trace.step import (
+from zaklimot.commands.explain.banks import FrameShape
+from zaklimot.commands.report.report import Report
+from zaklimot.commands.script.words import FONTS
+from zaklimot.commands.trace import rebuilding
+from zaklimot.commands.trace.rebuilding import Follower, steps_behind
+from zaklimot.commands.trace.state import Beam, BeamPlace, State
+from zaklimot.commands.trace.step import (
     ADVANCE,
     FRAME,
     GET,
@@ -29,7 +29,7 @@ from zaklimot_tools.trace.step import (
     WORDS,
     TraceStep,
 )
-from zaklimot_tools.trace.trace import Call
+from zaklimot.commands.trace.trace import Call
 
 from .tools import hold, refused, run_texts, stream, takes_long, want_library
 from .tracing import steps_listed

@@ -7,7 +7,6 @@ import gzip
 import json
 import os
 import re
-import shutil
 import sys
 import tempfile
 import unittest
@@ -15,36 +14,27 @@ import zlib
 from collections import Counter
 from itertools import product
 from pathlib import Path
-from typing import Any, Iterator, Optional
+from typing import Any, Optional
 from unittest import mock
 
 from zaklimot.format import Step, decode
-from zaklimot_tools.steps.adapter import SteppedCard
-from zaklimot_tools.steps.chance import Chance
-from zaklimot_tools.steps.comparing import differences
-from zaklimot_tools.steps.confirming import MOST_TOLD
-from zaklimot_tools.steps.kinds import KINDS
-from zaklimot_tools.steps.library import load
-from zaklimot_tools.steps.parts import BDA, BEAM, FINAL, INITIAL, ORDER, Element
-from zaklimot_tools.steps.readback import readback_lines, state_read
-from zaklimot_tools.steps.reading import STEPS, fault_of, read_elements
-from zaklimot_tools.steps.rules import RULES, branches_shown
-from zaklimot_tools.steps.scripts import confirming, expected_answer, reached, text_lines
-from zaklimot_tools.script.words import FONTS
+from zaklimot.commands.steps.adapter import SteppedCard
+from zaklimot.commands.steps.chance import Chance
+from zaklimot.commands.steps.comparing import differences
+from zaklimot.commands.steps.kinds import KINDS
+from zaklimot.commands.steps.library import load
+from zaklimot.commands.steps.parts import BDA, BEAM, FINAL, INITIAL, ORDER, Element
+from zaklimot.commands.steps.readback import readback_lines
+from zaklimot.commands.steps.reading import STEPS, fault_of, read_elements
+from zaklimot.commands.steps.rules import RULES, branches_shown
+from zaklimot.commands.steps.scripts import expected_answer, reached, text_lines
+from zaklimot_dev.release.coverage import counted_file, seldom_shown
+from zaklimot.commands.script.words import FONTS
 
 from . import branches
+from .confirming import confirming, differing
 from .stepping import COUNT, GOOD, Made, SEED, STEPS_EXAMPLES, steps, told
-from .tools import (
-    PROGRAM,
-    TOP,
-    Folder,
-    hold,
-    hold_refused,
-    hold_undone,
-    run_program,
-    run_tool,
-    want_program,
-)
+from .tools import PROGRAM, TOP, Folder, hold, hold_refused, hold_undone, run_tool, want_program
 
 
 PAGE = TOP / "docs" / "STEPS.md"
@@ -206,66 +196,10 @@ class Scripts(Made):
         )
         hold(self, expected_answer, expected)
 
-    def test_the_program_confirms_all(self) -> None:
-        want_program()
-        status, output, said = steps("confirm", *self.files.values(), "--vga", PROGRAM, "--jobs", 4)
-        self.assertEqual((status, said), (0, ""), output)
-        self.assertEqual(output.count(f"{COUNT} elements, 0 differ\n"), len(KINDS), output)
-
-    def test_it_sees_each_part_that_is_another(self) -> None:
-        want_program()
-        kinds = ("write-words", "dac-writes", "dots-text", "clock", "service-0e", "service-10")
-        for kind in (*kinds, "service-00-mode-sets"):
-            path = self.folder / f"{kind}.json"
-            changed = list(self.changed(next(self.elements(kind, 1))))
-            path.write_text("[\n" + ",\n".join(map(json.dumps, changed)) + "\n]\n")
-            status, output, said = steps("confirm", path, "--vga", PROGRAM)
-            self.assertEqual((status, said), (1, ""))
-            self.assertIn(f"{len(changed)} elements, {len(changed)} differ", output)
-
-    def test_what_is_told_of_those_that_differ(self) -> None:
-        want_program()
-        wrong = [{**GOOD, "final": {**GOOD["final"], "misc": number}} for number in range(4, 12)]
-        lines = {name: wrong[:count] for name, count in (("many", 8), ("one", 1))}
-        lines["none"] = [next(read_elements(str(self.files["write-words"])))]
-        for name, found in lines.items():
-            self.write(name, "[\n" + ",\n".join(map(json.dumps, found)) + "\n]\n")
-        many, one, none = (self.folder / name for name in lines)
-        status, output, _ = steps("confirm", many, "--vga", PROGRAM)
-        told = [f"{many}: element {n}, a write: misc: 3, not {4 + n}" for n in range(MOST_TOLD)]
-        self.assertEqual((status, output.splitlines()[:-1]), (1, told))
-        self.assertEqual(output.splitlines()[-1], f"{many}: 8 elements, 8 differ")
-        first = steps("confirm", many, "--first", 3, "--vga", PROGRAM)[1]
-        self.assertIn(f"{many}: 3 elements, 3 differ\n", first)
-        # One that differs is enough, whichever file it is in.
-        for paths in ((one, none), (none, one)):
-            status, output, _ = steps("confirm", *paths, "--jobs", 2, "--vga", PROGRAM)
-            self.assertEqual(status, 1)
-            self.assertIn(f"{one}: 1 element, 1 differs\n", output)
-            self.assertIn(f"{none}: 1 element, 0 differ\n", output)
-
-    @staticmethod
-    def changed(element: Element) -> Iterator[Element]:
-        """The element with the last number of each part of its final state, and of its answer,
-        changed by a bit that it may have."""
-        for names in (*((FINAL, part) for part in element[FINAL]), ("answer",)):
-            for bit in (1, 2, 4, 8):
-                other = json.loads(json.dumps(element))
-                place, key = other, names[0]
-                while (
-                    isinstance(
-                        place.get(key) if isinstance(place, dict) else place[key], (list, dict)
-                    )
-                    and place[key]
-                ):
-                    place = place[key]
-                    keys = [*place] if isinstance(place, dict) else range(len(place))
-                    key = names[1] if place is other[FINAL] else keys[-1]
-                if not isinstance(place, dict) or key in place:
-                    place[key] = place[key] ^ bit if place[key] else bit
-                    if not fault_of(other):
-                        yield other
-                        break
+    def test_reports_of_scripts_confirm_all(self) -> None:
+        for kind, path in self.files.items():
+            for number, element in enumerate(read_elements(str(path))):
+                self.assertEqual(differing(element), [], (kind, number))
 
     def test_bytes_that_are_not_listed_are_0(self) -> None:
         with SteppedCard(load(), Path(FONTS).read_bytes()) as card:
@@ -360,7 +294,7 @@ class Scripts(Made):
                 path = self.folder / f"{kind_of}.vga"
                 words = ("script", self.files[kind_of], 5, path, "--then", "reads")
                 self.assertEqual(steps(*words), (0, "", ""))
-                done = run_tool("vga-report", "run", path, "--vga", PROGRAM, "--quiet")
+                done = run_tool("zaklimot", "run", path, "--vga", PROGRAM, "--quiet")
                 self.assertEqual(done[0], 0, (kind_of, done))
                 self.assertGreater(path.read_text().count("; = "), 3)
 
@@ -371,70 +305,6 @@ class Scripts(Made):
     def test_an_element_that_is_not_there(self) -> None:
         done = steps("script", self.files["clock"], COUNT)
         hold_undone(self, done, f"it has {COUNT} elements, and no element {COUNT}$")
-
-
-class Machines(Made):
-    """Elements for adapters that show their state by ports and addresses alone."""
-
-    # Elements of the beam, of which a machine tells nothing: cycles, and dots that pass.
-    OF_BEAM = ("input-status-1", "clock")
-    KINDS = ("write-mode-1-odd-even", "read-words", "attribute-controller", "dac-writes", *OF_BEAM)
-
-    def reports(self, *words: Any) -> list[Path]:
-        """The reports of the scripts of some elements, by the program."""
-        want_program()
-        given = [self.files[kind] for kind in self.KINDS]
-        status, output, said = steps("scripts", self.folder / "asked", *given, *words)
-        self.assertEqual((status, said), (0, ""), said)
-        made = []
-        for line in (self.folder / "asked" / "list.txt").read_text().splitlines():
-            path = self.folder / "asked" / line.removesuffix(" -")
-            report = (self.folder / "told" / line).with_suffix(".report")
-            report.parent.mkdir(parents=True, exist_ok=True)
-            report.write_bytes(run_program("go", path, "--fonts", FONTS).report)
-            made.append(report)
-        self.assertEqual(output, f"{len(made)} scripts\n")
-        return made
-
-    def judged(self, *words: Any) -> tuple[int, str, str]:
-        given = [self.files[kind] for kind in self.KINDS]
-        return steps("reports", self.folder / "told", *given, *words)
-
-    def test_the_program_agrees(self) -> None:
-        before = self.write("before.vga", "out 3C2 FF\nin 3CC\n")
-        for words in ((), ("--before", before)):
-            with self.subTest(words):
-                shutil.rmtree(self.folder / "asked", ignore_errors=True)
-                made = self.reports("--first", 12, *words)
-                status, output, said = self.judged("--first", 12)
-                self.assertEqual((status, said), (0, ""), output)
-                # Of refusals it tells nothing either.
-                self.assertFalse([path for path in made if path.parent.name in self.OF_BEAM])
-                for kind in self.OF_BEAM:
-                    self.assertIn(f"{kind}.json.gz: no element\n", output)
-                self.assertIn(f"{len(made)} elements: {len(made)} agree, 0 differ\n", output)
-                self.assertIn("dac_component is left out of ", output)
-
-    def test_another_answer_differs(self) -> None:
-        made = [path for path in self.reports("--first", 12) if path.parent.name == "read-words"]
-        lines = made[0].read_text().splitlines()
-        lines[-1] = lines[-1].split()[0] + (" 00" if lines[-1].split()[1] != "00" else " 01")
-        made[0].write_text("".join(f"{line}\n" for line in lines))
-        made[1].write_text(
-            made[1].read_text().replace(" ok", " skipped").replace(" 00", " skipped")
-        )
-        status, output, _ = self.judged("--first", 12)
-        self.assertEqual(status, 1)
-        self.assertRegex(output, r"read-words.json.gz: \d+ agree, 1 differ, 1 skipped\n")
-        self.assertRegex(output, r"\n    planes \d+: ")
-
-    def test_a_report_that_is_too_short(self) -> None:
-        made = self.reports("--first", 2)
-        made[0].write_text("1 ok\n")
-        told = "it has 1 answer, and its script has [0-9]+ steps$"
-        hold_undone(self, self.judged("--first", 2), told)
-        made[0].unlink()
-        hold_undone(self, self.judged("--first", 2), "report: No such file or directory$")
 
 
 class Rules(Made):
@@ -477,7 +347,7 @@ class Rules(Made):
         wanted = json.loads(branches.FILE.read_text("ascii"))
         self.assertEqual(branches.counted(), wanted, "tests/branches.py writes them anew")
 
-    def test_coverage_tells_the_file_that_shows_a_branch_most_often(self) -> None:
+    def test_a_branch_that_is_shown_too_seldom_is_told(self) -> None:
         put = {**GOOD, "initial": {**GOOD["initial"], **REGISTERS}}
         put["final"] = {**GOOD["final"], **REGISTERS}
         beyond = {**put, "put": [0xB0000, 7], "refused": "NotDecoded", "final": put["initial"]}
@@ -487,29 +357,15 @@ class Rules(Made):
             self.write(name, "[\n" + ",\n".join(map(json.dumps, found)) + "\n]\n")
         paths = [self.folder / name for name in files]
         for given in (paths, paths[::-1]):
-            table = json.loads(steps("coverage", *given, "--json", "--least", "0")[1])["rules"]
-            rule = table["enable RAM"]
-            self.assertEqual({one[0] for one in rule.values()} - {""}, {str(paths[1])})
-            self.assertEqual(max(one[1] for one in rule.values()), 20_000 / 3)
-
-    def test_coverage_counts(self) -> None:
-        path = self.files["write-mode-1-planar"]
-        status, output, _ = steps("coverage", path)
-        self.assertEqual(status, 1)
-        self.assertIn("\nwrite mode 1 stores the latches (docs/HOST-PATH.md#a-write-bit", output)
-        self.assertRegex(output, r"(?m)^ !       0  text  *$|^ !       0  mode 03$")
-        found = json.loads(steps("coverage", path, "--json", "--least", "0")[1])
-        shown = found["files"][0]["branches"]["write mode 1 stores the latches"]
-        wanted = sum(
-            not one.get("refused")
-            and one["initial"]["seq"][2] > 0
-            and one["initial"]["gfx"][8] < 255
-            for one in read_elements(str(path))
-        )
-        self.assertEqual(shown["whatever the bit mask is"], wanted)
-        both = steps("coverage", path, self.files["clock"], "--jobs", 2, "--least", "0")
-        self.assertEqual(both[0], 0)
-        self.assertRegex(both[1], rf"{len(RULES)} rules with \d+ branches, 0 of them below 0 of")
+            told = list(seldom_shown(given, 2))
+            self.assertGreater(len(told), 100)
+            counts = counted_file(paths[1])
+            shown = [": ".join(name) for name, count in counts.branches.items() if count == 2]
+            self.assertEqual((counts.elements, bool(shown)), (3, True))
+            self.assertFalse([one for one in told if one.startswith(tuple(shown))])
+            # Two of three is the most that any file has.
+            told = list(seldom_shown(given, 1, 6_667))
+            self.assertIn(f"{shown[0]}: 6667 of 10,000 in often", told)
 
 
 def change(chance: Chance, value: Any) -> None:
@@ -632,14 +488,11 @@ class Files(Folder):
     def test_each_command_tells_the_line(self) -> None:
         path = self.write("bad.json", "[\n5\n]\n")
         for words in (
-            ("coverage", path),
             ("script", path, "0"),
-            ("confirm", path, "--vga", self.answering("ok")),
             ("check", "cat", path),
-            ("coverage", path, path, "--jobs", "2"),
         ):
             with self.subTest(words):
-                hold_undone(self, steps(*words), "^vga-steps: .*bad.json:2: it is no object$")
+                hold_undone(self, steps(*words), "^zaklimot: .*bad.json:2: it is no object$")
 
     def test_no_element_ends_the_tools(self) -> None:
         """Elements that are changed at random are refused, or are counted and written as any."""
@@ -674,20 +527,6 @@ class Files(Folder):
             lines = readback_lines({**GOOD, FINAL: state})
             indexes = [line for line in lines if line.startswith("out 3C0 ")]
             self.assertEqual(indexes, [f"out 3C0 {index | shown:02X}" for index in range(21)])
-
-    def test_what_no_cycle_reads_is_left_out_of_a_state(self) -> None:
-        hidden: Element = {
-            "attr_is_data": 0,
-            "dac_component": 2,
-            "dac_waiting": [1, 2],
-            "sums": [0] * 5,
-            "beam": dict.fromkeys(BEAM, 0),
-            "bda": dict.fromkeys(BDA, 0),
-        }
-        # The mask of the DAC, its index, and the three components of an entry.
-        read: Element = {"dac_mask": 1, "dac_index": 2, "colours": [[9, 3, 4, 5]]}
-        wanted = {"dac_mask": 6, "dac_index": 7, "colours": [[9, 8, 10, 11]]}
-        self.assertEqual(state_read({**read, **hidden}, [6, 7, 8, 10, 11]), wanted)
 
     def test_a_byte_beside_the_places_of_an_element_is_told(self) -> None:
         place = GOOD[FINAL]["planes"][0]

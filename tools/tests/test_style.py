@@ -6,12 +6,11 @@ import ast
 import os
 import re
 import unittest
-from collections import Counter
 from pathlib import Path
 from typing import Any, Iterator, Sequence, Union
 from unittest import mock
 
-from zaklimot_tools.dev.testing import style
+from zaklimot_dev.testing import style
 
 from .test_pages import files
 from .tools import TOOLS, TOP, Folder, call, hold_undone, main_of
@@ -20,7 +19,7 @@ from .tools import TOOLS, TOP, Folder, call, hold_undone, main_of
 # A file or folder whose types are checked.
 FILES = r'^    "\$MYPY_CONFIG_FILE_DIR/(?:\.\./)?([\w.]+)",$'
 # How the judge of types in the package for Python is called.
-TYPES = "mypy of bindings/python"
+TYPES = "mypy of python"
 # So many lines has a function at most.
 MOST_LINES = 40
 Named = Union[ast.FunctionDef, ast.ClassDef]
@@ -77,7 +76,7 @@ class Style(Folder):
         black, flake8 = noted.index("black"), noted.index("flake8")
         self.assertIn("--check", noted[black:flake8])
         for words in (noted[black:flake8], noted[flake8 : noted.index("mypy")]):
-            self.assertEqual({"tools/vga-report", *style.FOLDERS} - {*words}, set())
+            self.assertEqual({"zaklimot", "tools/vga-page", *style.FOLDERS} - {*words}, set())
         self.assertNotIn("tools/tests-with-emulators", noted)
 
     def test_what_one_finds_is_told_and_the_others_judge_too(self) -> None:
@@ -117,14 +116,12 @@ class Style(Folder):
         self.assertIn(f"at most {width[0]} columns, as `black`", told)
         named = ", ".join(f"`{folder}/`" for folder in style.FOLDERS).rpartition(", ")
         self.assertIn(f"`mypy --strict` of all Python in {named[0]} and {named[2]}", told)
-        of_mypy = {*style.FOLDERS} - {"bindings"}
-        self.assertEqual(
-            {*judged}, of_mypy - {"tools"} | {"zaklimot_tools", "tests", "building.py"}
-        )
-        bindings = (TOP / style.BINDINGS).read_text("utf-8")
-        self.assertIn("\n[tool.mypy]\nstrict = true\n", bindings)
-        modules = {path.name for path in (TOP / style.BINDINGS).parent.glob("*.py")}
-        self.assertEqual({*re.findall(FILES, bindings, re.M)}, {"src", "tests", *modules})
+        of_mypy = {*style.FOLDERS} - {"python"}
+        self.assertEqual({*judged}, of_mypy - {"tools"} | {"zaklimot_dev", "tests"})
+        package = (TOP / style.PACKAGE).read_text("utf-8")
+        self.assertIn("\n[tool.mypy]\nstrict = true\n", package)
+        modules = {path.name for path in (TOP / style.PACKAGE).parent.glob("*.py")}
+        self.assertEqual({*re.findall(FILES, package, re.M)}, {"zaklimot", "tests", *modules})
 
     def test_what_is_missing_is_told(self) -> None:
         for words in ((), ("--ready",)):
@@ -143,10 +140,9 @@ class Written(unittest.TestCase):
     """What none of the judges asks of the tools and of the package for Python."""
 
     def setUp(self) -> None:
-        folders = (TOOLS / "zaklimot_tools", TOP / "bindings" / "python" / "src")
-        self.files = [TOOLS / "building.py"]
-        self.files += [path for folder in folders for path in folder.rglob("*.py")]
-        self.files += (TOP / "bindings" / "python").glob("*.py")
+        folders = (TOOLS / "zaklimot_dev", TOP / "python" / "zaklimot")
+        self.files = [path for folder in folders for path in folder.rglob("*.py")]
+        self.files += (TOP / "python").glob("*.py")
 
     def nodes(self, *kinds: type[ast.AST], files: Sequence[Path] = ()) -> Iterator[tuple[str, Any]]:
         """The parts of these kinds of these files or of all, each with its place."""
@@ -155,15 +151,8 @@ class Written(unittest.TestCase):
                 if isinstance(node, kinds):
                     yield f"{path.relative_to(TOP)}:{getattr(node, 'lineno', 0)}", node
 
-    def test_a_name_is_that_of_one_class_of_the_tools(self) -> None:
-        places = [
-            (node.name, place) for place, node in self.nodes(ast.ClassDef) if "tools/" in place
-        ]
-        counted = Counter(name for name, _ in places)
-        self.assertEqual([one for one in places if counted[one[0]] > 1], [])
-
     def test_functions_are_short(self) -> None:
-        tests = (TOOLS / "tests", TOP / "bindings" / "python" / "tests")
+        tests = (TOOLS / "tests", TOP / "python" / "tests")
         files = self.files + [path for folder in tests for path in folder.glob("*.py")]
         functions = self.nodes(ast.FunctionDef, ast.AsyncFunctionDef, files=files)
         lines = [(node.end_lineno - node.lineno + 1, place) for place, node in functions]

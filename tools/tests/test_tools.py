@@ -18,8 +18,8 @@ from pathlib import Path
 from threading import Event
 from unittest import mock
 
-from zaklimot_tools.core import cli
-from zaklimot_tools.core.processes import (
+from zaklimot.commands.core import cli
+from zaklimot.commands.core.processes import (
     IS_LINUX,
     Done,
     Failed,
@@ -32,23 +32,25 @@ from zaklimot_tools.core.processes import (
     started,
     streaming,
 )
-from zaklimot_tools.core.progress import DELAY, Progress
-from zaklimot_tools.core.streams import write_file, writing
-from zaklimot_tools.core.trouble import TROUBLE, Trouble
-from zaklimot_tools.core.words import MEBIBYTE
-from zaklimot_tools.dev.library.making import AARCH64
-from zaklimot_tools.dev.testing import checking, running
-from zaklimot_tools.dev.testing.running import TESTED
-from zaklimot_tools.report.listing import _wait_for
-from zaklimot_tools.script.crates import phases
+from zaklimot.commands.core.progress import DELAY, Progress
+from zaklimot.commands.core.streams import write_file, writing
+from zaklimot.commands.core.trouble import TROUBLE, Trouble
+from zaklimot.commands.core.words import MEBIBYTE
+from zaklimot_dev.library.making import AARCH64
+from zaklimot_dev.testing import checking, running
+from zaklimot_dev.testing.running import TESTED
+from zaklimot.commands.report.listing import _wait_for
+from zaklimot.commands.script.crates import phases
 
 from .tools import (
     patched,
     main_of,
     NAMES,
+    PACKAGE,
     PYTHON,
     SIGNALS,
     TOOLS,
+    path_of,
     TOP,
     Folder,
     begin,
@@ -66,8 +68,8 @@ NOTING = Path(__file__).with_name("noting.sh").read_text("ascii")
 # Starts a program, and has a signal come amid its start; its status tells that the signal came.
 INTERRUPTED = """
 import os, signal, sys
-sys.path.insert(0, {tools!r})
-from zaklimot_tools.core.processes import started
+sys.path.insert(0, {package!r})
+from zaklimot.commands.core.processes import started
 # A run in the background of a shell has the signal ignored.
 signal.signal(signal.SIGINT, signal.default_int_handler)
 os.register_at_fork(after_in_parent=lambda: os.kill(os.getpid(), signal.SIGINT))
@@ -105,7 +107,7 @@ time.sleep(600)
 # too.
 TESTS = """
 import os, subprocess, tempfile, unittest
-from zaklimot_tools.core.processes import started
+from zaklimot.commands.core.processes import started
 class Sleeping(unittest.TestCase):
     def test_one(self):
         tempfile.mkstemp()
@@ -115,17 +117,14 @@ class Sleeping(unittest.TestCase):
 """
 # The words of tools that start programs.
 STARTING = (
-    "vga-report suite {harness} --list {list}",
-    "vga-report run {script} --try",
+    "zaklimot suite {harness} --list {list}",
     "vga-library make {made}",
     "vga-release {made}",
     "vga-page module {made}",
     "vga-fuzz {vga}",
-    "vga-floppy run --on dosbox {script} {made}",
-    "vga-steps confirm {elements} --vga {vga}",
-    "vga-steps confirm {elements} {elements} --jobs 2 --vga {vga}",
+    "zaklimot floppy run --on dosbox {script} {made}",
     "tests-of-tools {tests}",
-    "vga-trace record {made} --vga {vga} --quiet 50 -- -cdrom disc",
+    "zaklimot trace record {made} --vga {vga} --quiet 50 -- -cdrom disc",
 )
 # What the only test of a module does, and what is told of it.
 TEST = """import os, signal, time, unittest
@@ -152,7 +151,7 @@ class Endings(unittest.TestCase):
         """Exit status and standard error of a tool's help, with its streams as a shell sets
         them."""
         status, _, said = ended(
-            "/bin/sh", "-c", f'"$@" {rest}', "sh", *PYTHON, TOOLS / name, "--help"
+            "/bin/sh", "-c", f'"$@" {rest}', "sh", *PYTHON, path_of(name), "--help"
         )
         return status, said
 
@@ -179,7 +178,7 @@ class Endings(unittest.TestCase):
                 os.close(reader)
                 with open(writer, "wb"):
                     self.assertEqual(
-                        ended(*PYTHON, TOOLS / name, "--help", stdout=writer), (141, None, "")
+                        ended(*PYTHON, path_of(name), "--help", stdout=writer), (141, None, "")
                     )
 
 
@@ -190,8 +189,9 @@ class Programs(unittest.TestCase):
         )
         found = {
             path.name
-            for path in TOOLS.rglob("*.py")
-            if path.parent.name != "tests" and starting.search(path.read_text("utf-8"))
+            for folder in (PACKAGE, TOOLS / "zaklimot_dev")
+            for path in folder.rglob("*.py")
+            if starting.search(path.read_text("utf-8"))
         }
         self.assertEqual(found, {"processes.py"})
 
@@ -201,12 +201,14 @@ class Programs(unittest.TestCase):
                 self.fail("it is started")
 
     def test_no_signal_is_lost_while_one_is_started(self) -> None:
-        status, _, said = ended(sys.executable, "-c", INTERRUPTED.format(tools=str(TOOLS)))
+        status, _, said = ended(
+            sys.executable, "-c", INTERRUPTED.format(package=str(PACKAGE.parents[1]))
+        )
         self.assertEqual((status, said), (7, ""))
 
     def test_unions_of_types_are_not_evaluated(self) -> None:
         # Python 3.9, which the tools are content with, has no `|` between types.
-        for path in TOOLS.glob("zaklimot_tools/**/*.py"):
+        for path in PACKAGE.rglob("*.py"):
             nodes = list(ast.walk(ast.parse(path.read_text("utf-8"))))
             told = [node.annotation for node in nodes if isinstance(node, (ast.arg, ast.AnnAssign))]
             told += [node.returns for node in nodes if isinstance(node, ast.FunctionDef)]
@@ -217,7 +219,7 @@ class Programs(unittest.TestCase):
                 for part in ast.walk(one)
                 if isinstance(part, ast.BinOp)
             ]
-            with self.subTest(path.relative_to(TOOLS)):
+            with self.subTest(path.relative_to(TOP)):
                 is_late = any(
                     isinstance(node, ast.ImportFrom) and node.module == "__future__"
                     for node in nodes
@@ -476,7 +478,7 @@ class Lines(Folder):
         told: list[str] = []
         progress = mock.create_autospec(Progress)
         progress.tell.side_effect = told.append
-        with mock.patch("zaklimot_tools.script.crates.below", return_value=["low"]):
+        with mock.patch("zaklimot.commands.script.crates.below", return_value=["low"]):
             hear = phases(progress, "high")("proving")
         for line in (
             "",

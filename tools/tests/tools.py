@@ -33,16 +33,20 @@ from typing import (
 )
 from unittest import mock
 
-from zaklimot_tools.core.trouble import Trouble
-from zaklimot_tools.dev.testing.running import BUILT, TESTED
-from zaklimot_tools.dev.testing.style import PYTHON as STARTING
-from zaklimot_tools.script.library import use_library
-from zaklimot_tools.script.program import PROGRAM as BUILT_PROGRAM
-from zaklimot_tools.script.words import FONTS
+from zaklimot.commands.core.trouble import Trouble
+from zaklimot.commands.core.version import version
+from zaklimot_dev.testing.running import BUILT, TESTED
+from zaklimot_dev.testing.style import PYTHON as STARTING
+from zaklimot.commands.script.library import use_library
+from zaklimot.commands.script.program import PROGRAM as BUILT_PROGRAM
+from zaklimot.commands.script.words import FONTS
 
 
 TOOLS = Path(__file__).resolve().parents[1]
 TOP = TOOLS.parent
+# The commands of users; and where Python finds these and the modules of the tools.
+PACKAGE = TOP / "python" / "zaklimot" / "commands"
+MODULES = f"{TOOLS}:{TOP / 'python'}"
 EXAMPLES = TOP / "examples"
 RED = b"\x3f\x00\x00"
 WHITE = b"\x3f\x3f\x3f"
@@ -73,17 +77,26 @@ UNBUILT = "there is no program to test: tools/tests-of-tools compiles one, if th
 Marked = TypeVar("Marked", bound=Any)
 
 
-# All tools but the one that is the program itself.
-NAMES = sorted(
-    path.name
-    for path in TOOLS.glob("*")
-    if path.is_file() and path.read_bytes().startswith(STARTING) and path.name != "vga"
-)
+# The command of users, and all tools but the one that is the program itself.
+COMMAND = "zaklimot"
+NAMES = [
+    COMMAND,
+    *sorted(
+        path.name
+        for path in TOOLS.glob("*")
+        if path.is_file() and path.read_bytes().startswith(STARTING) and path.name != "vga"
+    ),
+]
+
+
+def path_of(name: str) -> Path:
+    """Where a tool lies, or the command of users."""
+    return TOP / name if name == COMMAND else TOOLS / name
 
 
 def main_of(name: str) -> Callable[[Sequence[str]], int]:
     """The `main` of a tool."""
-    found = MAIN.search((TOOLS / name).read_text("utf-8"))
+    found = MAIN.search(path_of(name).read_text("utf-8"))
     assert found is not None, name
     main: Callable[[Sequence[str]], int] = importlib.import_module(found[1]).main
     return main
@@ -263,6 +276,15 @@ def hold(
             test.assertEqual(work(*given), wanted)
 
 
+def hold_version(test: unittest.TestCase, name: str, done: Sequence[Any]) -> None:
+    """Holds what a tool has answered to `--version`. What runs scripts the command of users tells
+    alone."""
+    status, output, said = done
+    first, *more = output.splitlines()
+    test.assertEqual((status, first, said), (0, f"{name} {version()}", ""))
+    test.assertEqual([line[:16] for line in more], ["scripts run by t"] * (name == COMMAND))
+
+
 def hold_undone(test: unittest.TestCase, done: Sequence[Any], told: Any) -> None:
     """Holds what a call above has answered to work that can't be done: status 2, no output, words
     with the pattern."""
@@ -307,7 +329,7 @@ def begin(name: str, *words: str | Path, **options: Any) -> subprocess.Popen[Any
         "preexec_fn": _heed_signals,
         **options,
     }
-    return subprocess.Popen([*PYTHON, TOOLS / name, *words], **given)
+    return subprocess.Popen([*PYTHON, path_of(name), *words], **given)
 
 
 def is_running(number: int) -> bool:

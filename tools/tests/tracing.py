@@ -6,14 +6,14 @@ from __future__ import annotations
 import io
 from functools import partial
 
-from zaklimot_tools.trace.converting import Listing
-from zaklimot_tools.trace.step import OUT, OUTW, TraceStep
-from zaklimot_tools.trace.trace import Cycle, Trace
+from zaklimot.commands.trace.converting import Listing
+from zaklimot.commands.trace.step import OUT, OUTW, TraceStep
+from zaklimot.commands.trace.trace import Cycle, Trace
 
 from .tools import run_tool
 
 
-run = partial(run_tool, "vga-trace")
+run = partial(run_tool, "zaklimot", "trace")
 # What a trace from power-on begins with.
 BEGIN = b"0 w p 3C2 67 1\n"
 

@@ -1,0 +1,34 @@
+"""The words of the command line."""
+
+import argparse
+from functools import partial
+
+from zaklimot.commands.core import cli
+from zaklimot.commands.core.cli import later
+
+
+# What jobs of the command line are functions of.
+_job = partial(later, "zaklimot_dev.testing.checking")
+
+
+def _parser() -> argparse.ArgumentParser:
+    parser = cli.tool_parser(
+        "vga-check",
+        (
+            "Runs the suite and the tests of the tools over the portable program, which it compiles"
+            " once. Without --all it leaves out the tests that take longest."
+        ),
+        "tools/vga-check",
+        "CONTRIBUTING.md",
+        cli.JUDGES,
+    )
+    told = "of the tests these modules alone, such as tests.test_trace (default: all)"
+    parser.add_argument("modules", nargs="*", metavar="MODULE", help=told)
+    told = "runs the tests that take longest too, in 10 to 15 minutes on two processors"
+    cli.add(parser, "--all", told)
+    parser.set_defaults(job=_job("check"))
+    return parser
+
+
+# Runs a command line, and answers its exit status.
+main = cli.runner(_parser)

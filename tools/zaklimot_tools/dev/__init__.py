@@ -1,1 +1,0 @@
-"""What only developers of the project need: no release has it."""

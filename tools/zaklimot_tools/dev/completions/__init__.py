@@ -1,1 +1,0 @@
-"""The command `vga-completions`: how shells complete the words of the tools."""

@@ -1,1 +1,0 @@
-"""Images of others into scripts that draw them."""
