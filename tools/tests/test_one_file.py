@@ -125,6 +125,13 @@ class Made(unittest.TestCase):
         ):
             self.assertIn(part, made)
 
+    def test_what_a_single_cycle_calls_once_stands_apart(self) -> None:
+        once = WRITTEN.replace("zak_one", "zak_put")
+        twice = once.replace("  w2c_i1 = 2u;\n", "  w2c_i1 = w2c_f0(instance, w2c_i1);\n")
+        self.assertIn("\nAPART static u32 f0(module *, u32);\n", one_file(once))
+        for text in (WRITTEN, twice):
+            self.assertIn("\nstatic u32 f0(module *, u32);\n", one_file(text))
+
     def test_a_trap_ends_all_that_lead_to_it(self) -> None:
         made = one_file(WRITTEN.replace(FUNCTIONS, FUNCTIONS + TRAPPING))
         for name in ("f2", "f5"):

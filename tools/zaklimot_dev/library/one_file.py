@@ -227,7 +227,7 @@ def _apart(bodies: dict[str, str]) -> frozenset[str]:
     return frozenset(
         name
         for caller in CYCLES
-        for name in CALLED.findall(bodies[f"w2c_zak_{caller}"])
+        for name in CALLED.findall(bodies.get(f"w2c_zak_{caller}", ""))
         if calls[name] == 1
     )
 
