@@ -227,6 +227,24 @@ fn put_before_dots(machine: &mut Machine, owed: u32, address: u32, value: u8) ->
     machine.card.put_before_dots(owed, address, value)
 }
 
+/// Writes a byte to an address.
+#[tactic(auto, unfolding(vga_run::specs::Step::after_step, vga_run::specs::Step::answer_to))]
+fn put_on_machine(machine: &mut Machine, address: u32, value: u8) -> u32
+    ensures after { machine.new ≡ after_step machine.old (Put address value) }
+    ensures status { result ≡ status_of (answer_to machine.old (Put address value)) }
+{
+    status_after_write(machine.card.put(address, value))
+}
+
+/// Writes a byte to an address of a card that owes no dots.
+#[inline(never)]
+fn put_now(alloc: Global, card: &mut Handle, address: u32, value: u8) -> u32
+    ensures step { OpenCardTakesStep (Put address value) card.old card.new result }
+    ensures closed { ClosedCardStaysUnchanged card.old card.new result }
+{
+    on_open_card!(alloc, card, machine => put_on_machine(machine, address, value))
+}
+
 /// Writes a byte to an address, after those of the dots that are owed that may see it.
 #[inline(never)]
 fn put_after_dots(alloc: Global, card: &mut Handle, address: u32, value: u8) -> u32
@@ -236,7 +254,7 @@ fn put_after_dots(alloc: Global, card: &mut Handle, address: u32, value: u8) -> 
     on_owing_card!(alloc, card, machine, owed => put(machine, owed, address, value))
 }
 
-/// Writes a byte to an address of a card that may owe dots.
+/// Writes a byte to an address of a card that owes dots.
 #[inline(never)]
 fn put_on_owing_card(alloc: Global, card: &mut Handle, address: u32, value: u8) -> u32
     ensures step { OpenCardTakesStep (Put address value) card.old card.new result }
@@ -253,7 +271,10 @@ pub extern "C" fn zak_put(alloc: Global, card: &mut Handle, address: u32, value:
     ensures closed { ClosedCardStaysUnchanged card.old card.new result }
 {
     at_once!(alloc, card, machine => put_at_once(machine, address, value));
-    put_on_owing_card(alloc, card, address, value)
+    if card.owes_dots() {
+        return put_on_owing_card(alloc, card, address, value);
+    }
+    put_now(alloc, card, address, value)
 }
 
 /// Writes a word to an address and the next address, after the dots that are owed. It gives how

@@ -66,6 +66,11 @@ impl Handle {
         self.is_open && self.owed <= MOST_DOTS
     }
 
+    /// Whether the card owes dots.
+    pub(crate) fn owes_dots(&self) -> bool {
+        self.owed > 0
+    }
+
     /// Adds dots to those that the card owes, unless the sum is more than one advance may take.
     /// Returns whether it did.
     pub(crate) fn owe(&mut self, dots: u32) -> bool
