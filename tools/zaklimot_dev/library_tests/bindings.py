@@ -244,7 +244,7 @@ def _check_crate(_: Path, folder: Path) -> str:
 EACH: dict[str, Callable[[Path, Path], str]] = {
     "python": check_python,
     "rust": check_rust,
-    "javascript": lambda library, _: check_javascript(library, PACKAGE / "src"),
+    "javascript": lambda library, _: check_javascript(library, PACKAGE),
 }
 CHECKS: dict[str, Callable[[Path, Path], str]] = {
     **EACH,
