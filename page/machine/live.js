@@ -232,16 +232,32 @@ export class Live {
     machine.record(false);
     machine.cpu.go_on();
     this.#arm();
-    // Keys come at the end of a quantum alone, so that they can come there again.
-    if (machine.moment.isAmid) machine.run(now);
+    this.#endQuantum(now);
     this.#go();
     this.#canvas.focus();
+  }
+
+  /** Keys come at the end of a quantum alone, so that they can come there again. A stop may come before it. */
+  #endQuantum(now) {
+    const machine = this.#machine;
+    while (machine.moment.isAmid && machine.stopped === "runs") {
+      machine.run(now);
+      if (this.#isPassed()) this.#goPast();
+    }
   }
 
   /** What it stops at: see stopOf. */
   set stop(stop) {
     this.#stop = stop;
     if (this.state === "running" && !this.isComingBack) this.#arm();
+  }
+
+  /** What is to be said of a stop that can't come unless the machine goes back; nothing of another one. */
+  get stopText() {
+    const { frame } = this.#stop, now = this.#machine?.cpu.frames() ?? 0;
+    if (!["running", "paused"].includes(this.state) || this.isComingBack || frame === null || frame > now) return "";
+    return `Frame ${grouped(frame)} has passed: frame ${grouped(now)} is under way. The machine stops there when it ` +
+      "starts again, or if you take it back before that frame.";
   }
 
   /** The machine stops at what was asked for, but not where it is now. */
@@ -359,7 +375,7 @@ export class Live {
       if (machine.cpu.frames() !== frame) this.#pace.passFrame();
       if (this.#isPassed()) this.#goPast();
       this.#keepSnapshot();
-      if (frame < this.#stop.frame && machine.cpu.frames() >= this.#stop.frame) {
+      if (this.#stop.frame !== null && frame < this.#stop.frame && machine.cpu.frames() >= this.#stop.frame) {
         this.reason = "The frame that you asked for has come.";
         return;
       }

@@ -112,7 +112,7 @@ export class MachineRoom {
       if (example) words.focus();
       else this.#heard.guarded(() => this.#takeStop());
     });
-    words.addEventListener("change", () => this.#heard.guarded(() => this.#takeStop()));
+    words.addEventListener("change", () => this.#heard.guarded(() => this.#takeTyped()));
     words.addEventListener("keydown", event => {
       if (event.key !== "Enter" || this.#live?.state !== "running") return;
       words.blur();
@@ -125,6 +125,12 @@ export class MachineRoom {
     const kind = byId("stopkind").value, words = byId("stopwords").value.trim();
     const isWhole = words || !STOPS[kind].example;
     if (this.#live) this.#live.stop = stopOf(isWhole ? kind : "nothing", words);
+  }
+
+  /** The same for what was just typed; whether that can come is told. */
+  #takeTyped() {
+    this.#takeStop();
+    if (this.#live?.stopText) this.#heard.tell(this.#live.stopText);
   }
 
   #makeKeyboard() {

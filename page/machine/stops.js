@@ -61,12 +61,12 @@ function frameOf(words) {
 
 /**
  * What a machine stops at, of what was chosen and typed: `machine`, which Machine.stopAt takes; `frame`,
- * the number of a frame, or 0; and `holds(registers)`, whether the conditions hold.
+ * the number of a frame, or null; and `holds(registers)`, whether the conditions hold.
  */
 export function stopOf(kind, typed) {
   const [front, behind] = typed.trim().split(/\s+if\b/i);
   const conditions = behind === undefined ? [] : behind.split(/\s+and\s+/i).map(conditionOf);
-  const found = { machine: {}, frame: 0,
+  const found = { machine: {}, frame: null,
     holds: registers => conditions.every(condition => condition(registers)) };
   if (kind === "a port or an address") found.machine = { addresses: [addressOf(front)] };
   if (kind === "an instruction") found.machine = { places: [placeOf(front)] };

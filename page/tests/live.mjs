@@ -273,6 +273,56 @@ test("it stops at an instruction only where the conditions hold, and at a frame"
   ending.close();
 });
 
+test("each condition is kept to, also after a stop, amid a quantum, and at a cycle", () => {
+  // again: inc cx; jmp again
+  const live = running("41 EBFD"), { machine } = live, { CS } = machine.processor, at = `${CS.toString(16)}:0101`;
+  const stopsAt = wanted => {
+    live.stop = stopOf("an instruction", `${at} if CX=${wanted}`);
+    if (live.state === "paused") live.goOn();
+    page.turnUntil(() => live.state === "paused");
+    return (machine.processor.ECX & 0xffff).toString(16);
+  };
+  for (const wanted of ["500", "7", "6", "8", "500", "ffff"]) assert.equal(stopsAt(wanted), wanted);
+  live.close();
+  // again: inc cx; in al, dx; jmp again
+  const polls = running("BADA03 41 EC EBFC"), seen = [];
+  for (const wanted of ["30", "5", "6", "700"]) {
+    polls.stop = stopOf("a port or an address", `3DA if CX=${wanted}`);
+    if (polls.state === "paused") polls.goOn();
+    page.turnUntil(() => polls.state === "paused");
+    seen.push((polls.machine.processor.ECX & 0xffff).toString(16));
+  }
+  assert.deepEqual(seen, ["30", "5", "6", "700"]);
+  polls.close();
+});
+
+test("a frame that has passed is told, while it runs and while it is paused; one that comes is not", () => {
+  const live = running("EBFE"), { machine } = live;
+  const told = typed => {
+    live.stop = stopOf("a frame", typed);
+    return live.stopText;
+  };
+  page.turnUntil(() => machine.cpu.frames() >= 9);
+  const now = machine.cpu.frames(), next = String(now + 1);
+  assert.match(told("5"), new RegExp(`^Frame 5 has passed: frame ${now} is under way`));
+  assert.match(told("0"), /^Frame 0 has passed/);
+  assert.equal(told(next), "");
+  page.turnUntil(() => live.state === "paused");
+  assert.equal(machine.cpu.frames(), now + 1);
+  assert.match(told(next), new RegExp(`^Frame ${next} has passed: frame ${next}`));
+  assert.equal(told(String(now + 2)), "");
+  live.stop = stopOf("nothing", "");
+  assert.equal(live.stopText, "");
+  // It starts again, and that frame comes.
+  told("5");
+  live.close();
+  live.start({ program: code("EBFE") }, "made.com");
+  assert.equal(live.stopText, "");
+  page.turnUntil(() => live.state === "paused");
+  assert.equal(live.machine.cpu.frames(), 5);
+  live.close();
+});
+
 test("a saved run has its speed and its keys, until somebody does something", () => {
   const { live } = made(), inputs = [{ time: 0, does: "set_instruction_time", values: [SPEEDS[8088]] },
     { time: SECOND / 10, does: "key", values: [0x1e, 0x1e61] },
