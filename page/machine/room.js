@@ -57,7 +57,7 @@ export class MachineRoom {
    * `data` is what the page was built with, `module` the adapter's bytes, `runs` those that the browser
    * keeps. `heard` has `adapter()`, `fonts()`, `show(session)`, which shows a session in the debugger,
    * `steps()`, how many are shown, `script(text, name)`, `end()`, after which the page has its own script
-   * again, `named(words)`, which program is on, `left({ id, title })`, a run was switched off, `cameBack(id)`, it
+   * again, `named(words, isRunning)`, which program is on, `left({ id, title })`, a run was switched off, `cameBack(id)`, it
    * was brought back, `tell(text, isKept)`, `offer(text, title, does)`, `withdraw()`, which takes an offer away, and
    * `guarded(does)`.
    */
@@ -365,7 +365,7 @@ export class MachineRoom {
     if (split) this.#offer(split, state === "paused" ? NOT_WHOLE : HAS_LATER);
     byId("liveway").hidden = !isComingBack;
     setText(byId("livepause"), isComingBack ? "stop here" : "pause and explain");
-    this.#heard.named(state === "off" ? "" : `${this.#live.name}, ${state}`);
+    this.#heard.named(state === "off" ? "" : `${this.#live.name}, ${state}`, state === "running");
     byId("machine").hidden = state !== "running";
     byId("pausedbar").hidden = state !== "paused";
     byId("savetrace").hidden = state !== "paused";

@@ -58,6 +58,8 @@ export class View {
   bad = null;
   /** What is to be asked in the frames that are shown next: a subject, or null. */
   #lookedFor = null;
+  /** The program that runs, in words; nothing where none does. */
+  #program = "";
 
   constructor(adapter, module, data) {
     this.adapter = adapter;
@@ -254,7 +256,7 @@ export class View {
       steps: () => runner.outer.steps,
       script: (text, name) => this.desk.load(text, this.scripts.made(name, name, true)),
       end: () => this.#run(0),
-      named: words => { this.scripts.program = words; },
+      named: (words, isRunning) => this.#nameProgram(words, isRunning),
       left: run => this.desk.left(run),
       cameBack: id => this.desk.cameBack(id),
       tell: (text, isKept) => this.notice.tell(text, isKept),
@@ -390,7 +392,16 @@ export class View {
     this.transport?.update();
     this.calls?.update();
     const told = { bad: this.bad, drawn: this.saver?.drawn };
-    setText(byId("state"), this.judge.isAtWork ? READING : stateText(this.runner, told));
+    const reading = this.judge.isAtWork ? READING : "";
+    setText(byId("state"), this.#program || reading || stateText(this.runner, told));
+  }
+
+  /** Tells which program is on. While it runs, nothing is told of the script's run, or of frames before. */
+  #nameProgram(words, isRunning) {
+    this.scripts.program = words;
+    this.#program = isRunning ? words : "";
+    setAll(byId("compared"), { hidden: isRunning });
+    this.#update();
   }
 
   /** Tells why the page is at a step, if a search for a change has found it. */
