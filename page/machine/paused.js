@@ -89,14 +89,33 @@ export class Paused {
     this.#machine.restore(this.#live.snapshots.last);
   }
 
-  /** Brings the machine to where it was after so many steps of the window. */
+  /** Brings the machine to the window's end: where it was paused, or what was asked for when it went back. */
+  #seekLast() {
+    const { snapshots } = this.#live, machine = this.#machine, end = this.#end;
+    const before = snapshots.findLast(({ time }) => time <= end.time) ?? snapshots.first;
+    machine.restore(before);
+    machine.record(false);
+    if (before.time !== end.time || before.cycles !== end.cycles) this.#unseen(() => machine.runAgainTo(end));
+  }
+
+  /** Runs the machine, and draws no frame of it. */
+  #unseen(does) {
+    const machine = this.#machine;
+    machine.isShowing = false;
+    does();
+    machine.isShowing = true;
+  }
+
+  /**
+   * Brings the machine to where it was after so many steps of the window. After the last one that is the window's end:
+   * instructions that reach no display may lie between.
+   */
   seekStep(steps) {
+    if (steps === this.recording.length && !this.recording.leftOut) return this.#seekLast();
     const cycles = this.#cycle + (steps ? this.recording.recordsBefore(steps) : 0);
     const { snapshots } = this.#live, machine = this.#machine, { arrive } = this.#momentOf(cycles, 0);
     machine.restore(snapshots.findLast(one => one.cycles < cycles) ?? snapshots.first);
     machine.record(false);
-    machine.isShowing = false;
-    arrive(machine);
-    machine.isShowing = true;
+    this.#unseen(() => arrive(machine));
   }
 }

@@ -296,6 +296,29 @@ test("each condition is kept to, also after a stop, amid a quantum, and at a cyc
   polls.close();
 });
 
+test("after a window's last step the processor is where it was paused, or where the window ends", () => {
+  // Mode 3's picture, then inc cx alone: no cycle of the display lies between the stop and the last one.
+  const live = running("41 EBFD"), { machine } = live, { CS } = machine.processor;
+  page.turnUntil(() => machine.cpu.frames() > 3);
+  live.stop = stopOf("an instruction", `${CS.toString(16)}:0101 if CX=500`);
+  page.turnUntil(() => live.state === "paused");
+  const wanted = stateOf(machine), paused = windowOf(live), { length } = paused.recording;
+  const after = steps => {
+    paused.seekStep(steps);
+    return [machine.processor.ECX & 0xffff, machine.processor.EIP & 0xffff];
+  };
+  assert.deepEqual(after(length), [0x500, 0x101]);
+  assert.equal(stateOf(machine), wanted);
+  assert.notDeepEqual(after(length - 1), [0x500, 0x101]);
+  // An earlier window's last step is its own end.
+  assert.ok(live.goTo(paused.momentBack(paused.time / 2)));
+  const earlier = stateOf(machine), other = windowOf(live);
+  other.seekStep(0);
+  other.seekStep(other.recording.length);
+  assert.equal(stateOf(machine), earlier);
+  live.close();
+});
+
 test("a frame that has passed is told, while it runs and while it is paused; one that comes is not", () => {
   const live = running("EBFE"), { machine } = live;
   const told = typed => {
