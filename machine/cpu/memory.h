@@ -16,10 +16,13 @@ enum {
 
 extern u8 ram[RAM_BYTES], is_written[PARTS];
 extern u32 is_told; /* whether each instruction makes its text (X86EMU_TELLS) */
+/* How much memory from HIGH_BEGIN on is plain: none while the 21st address line is closed. */
+extern u32 high_bytes;
+enum { HIGH_BYTES = RAM_BYTES - HIGH_BEGIN - 3 };
 
 static inline __attribute__((always_inline)) int is_plain(u32 place)
 {
-    return place < LOW_END - 3 || place - HIGH_BEGIN < (u32)(RAM_BYTES - HIGH_BEGIN - 3);
+    return place < LOW_END - 3 || place - HIGH_BEGIN < high_bytes;
 }
 
 static inline __attribute__((always_inline)) void mark(u32 place, u32 bytes)

@@ -44,7 +44,8 @@ static void lay_stubs(void)
     static const u8 ROM[] = {0x9A, 0x03, 0x00, 0x00, 0xC0, 0xB8, 0x03, 0x00, 0xCD, 0x10, 0xE6, 0xF2, 0xF4};
     /* out F1; then letter after letter by interrupt 10: out F3; jc 6; int 10; jmp F3; iret */
     static const u8 DOS[] = {0xE6, 0xF1, 0xE6, 0xF3, 0x72, 0x04, 0xCD, 0x10, 0xEB, 0xF8, 0xCF};
-    static const u8 ROM_TABLE[] = {8, 0, 0xFC, 0, 0, 0x70, 0, 0, 0, 0};
+    /* An AT of the first date; it has a clock and two interrupt controllers, and asks nobody about its keys. */
+    static const u8 ROM_TABLE[] = {8, 0, 0xFC, 1, 0, 0x60, 0, 0, 0, 0};
     for (u32 number = 0; number < 256; number++) {
         lay(STUB_BYTES * number, STUB, sizeof STUB);
         point(number, STUB_BYTES * number);
@@ -63,6 +64,7 @@ static void lay_stubs(void)
 
 void begin_bios(void)
 {
+    open_line(1);
     lay_stubs();
     write_word(BIOS_DATA + 0x13, BASE_KIB);
     write_word(TICKS, NOON & 0xFFFF);
@@ -107,6 +109,16 @@ static void move_block(void)
     give_flag(ZERO, 1);
 }
 
+/* The 21st address line: closed, opened, how it is, and by what it can be changed: both the controller and port 92. */
+static void address_line(void)
+{
+    switch (AL) {
+    case 0: case 1: open_line(AL); break;
+    case 2: AL = (u8)is_line_open(); break;
+    case 3: BX = 3; break;
+    }
+}
+
 static void system_service(void)
 {
     if (AX == 0xE820 && processor.x86.R_EDX == MEMORY_MAP) {
@@ -116,9 +128,9 @@ static void system_service(void)
     give_flag(CARRY, 0);
     switch (AH) {
     case 0x24:
-        AX = (u16)(AL == 3 ? 0x0003 : AL);
-        BX = AX == 3 ? 3 : BX;
+        if (AL > 3) break;
         AH = 0;
+        address_line();
         return;
     case 0x86: has_waited(((u64)CX << 16 | DX) * 1000); return;
     case 0x87: move_block(); return;

@@ -5,7 +5,7 @@
 
 enum { SECONDS = 0, MINUTES = 2, HOURS = 4, WEEKDAY = 6, DAY = 7, MONTH = 8, YEAR = 9, STATUS_A = 10, STATUS_B = 11,
        STATUS_D = 13, DISKETTES = 16, EQUIPMENT = 20, BASE_LOW = 21, BASE_HIGH = 22, EXTENDED_LOW = 23,
-       EXTENDED_HIGH = 24, CENTURY = 50 };
+       EXTENDED_HIGH = 24, FOUND_LOW = 48, FOUND_HIGH = 49, CENTURY = 50 };
 enum { TICKS_A_DAY = 0x1800B0, TICKS = BIOS_DATA + 0x6C, PASSED_MIDNIGHT = BIOS_DATA + 0x70, BASE_KIB = 640 };
 #define NANOSECONDS 1000000000ull
 static u8 picked;
@@ -51,8 +51,8 @@ u32 cmos_in(u32 port)
     case EQUIPMENT: return 0x21 | (has_drive(1) ? 0x40 : 0);
     case BASE_LOW: return BASE_KIB & 0xFF;
     case BASE_HIGH: return BASE_KIB >> 8;
-    case EXTENDED_LOW: return extended & 0xFF;
-    case EXTENDED_HIGH: return extended >> 8;
+    case EXTENDED_LOW: case FOUND_LOW: return extended & 0xFF;
+    case EXTENDED_HIGH: case FOUND_HIGH: return extended >> 8;
     }
     return 0;
 }

@@ -7,7 +7,7 @@ FROM("host", "told") void host_told(u32 segment, u32 place, u32 text, u32 length
 
 /* No memory is plain where each segment begins so much higher. */
 #define AWAY 0xC0000000u
-enum { NOTHING = 0xFF, MOST_LINES = 200 };
+enum { NOTHING = 0xFF, MOST_LINES = 200, RETURN = 0xCF, HALT = 0xF4 };
 static x86emu_t kept;
 static u32 code_bytes; /* of the instruction that is told */
 
@@ -36,6 +36,7 @@ static u32 tell_one(u32 segment, u32 base, u32 offset)
     processor = kept;
     processor.memio = look;
     processor.code_check = 0;
+    processor.intr = 0; /* what is only looked at lacks nothing */
     for (int i = 0; i < 8; i++) processor.x86.seg[i].base += AWAY;
     processor.x86.R_CS_BASE = base + AWAY;
     processor.x86.R_EIP = offset;
@@ -47,14 +48,24 @@ static u32 tell_one(u32 segment, u32 base, u32 offset)
     return code_bytes ? code_bytes : 1;
 }
 
-/* Tells so many instructions from a place on, one after the other. */
+/* Whether a stub of the BIOS ends with this instruction: what stands behind it is none. */
+static int is_end(u32 base, u32 offset)
+{
+    u32 code = byte_at(base + offset);
+    return base == STUBS && (code == RETURN || code == HALT);
+}
+
+/* Tells so many instructions from a place on, one after the other; of the BIOS those of one stub. */
 SHOWN("disassemble") void disassemble(u32 segment, u32 offset, u32 count)
 {
-    u32 was_told = is_told;
+    u32 was_told = is_told, is_over = 0;
     kept = processor;
     is_told = 1;
     u32 base = segment == kept.x86.R_CS ? kept.x86.R_CS_BASE : segment << 4;
-    for (u32 i = 0; i < count && i < MOST_LINES; i++) offset += tell_one(segment, base, offset);
+    for (u32 i = 0; i < count && i < MOST_LINES && !is_over; i++) {
+        is_over = is_end(base, offset);
+        offset += tell_one(segment, base, offset);
+    }
     processor = kept;
     is_told = was_told;
 }

@@ -3,7 +3,8 @@
 
 enum { MOST_SCANS = 128, OUTPUT_FULL = 1, SYSTEM = 4, KEYBOARD_ENABLED = 0x10, ACKNOWLEDGED = 0xFA, PASSED_TEST = 0x55 };
 enum commands { READ_BYTE = 0x20, WRITE_BYTE = 0x60, TEST = 0xAA, TEST_LINES = 0xAB, DISABLE = 0xAD, ENABLE = 0xAE,
-                READ_OUTPUT = 0xD0, WRITE_OUTPUT = 0xD1, RESET = 0xFE };
+                READ_OUTPUT = 0xD0, WRITE_OUTPUT = 0xD1, CLOSE_LINE = 0xDD, OPEN_LINE = 0xDF, RESET = 0xFE };
+enum { NO_RESET = 1, LINE = 2 }; /* of the controller's output */
 /* In the BIOS' data: shift keys, where keys are taken and put, and their room. */
 enum { SHIFTS = BIOS_DATA + 0x17, TAKEN = BIOS_DATA + 0x1A, PUT = BIOS_DATA + 0x1C, FIRST = 0x1E, END = 0x3E };
 enum { BYTE_TIME = 1000000 }; /* a byte of the keyboard takes a millisecond */
@@ -108,6 +109,12 @@ u32 keyboard_in(u32 port)
     return output.byte;
 }
 
+static void put_out(u32 value)
+{
+    open_line(value & LINE);
+    if (!(value & NO_RESET)) stop(RESTARTED);
+}
+
 static void take_command(u32 value)
 {
     command = 0;
@@ -117,7 +124,8 @@ static void take_command(u32 value)
     case TEST_LINES: answer(0); break;
     case DISABLE: is_disabled = 1; break;
     case ENABLE: is_disabled = 0; break;
-    case READ_OUTPUT: answer(0xDF); break;
+    case READ_OUTPUT: answer(is_line_open() ? OPEN_LINE : CLOSE_LINE); break;
+    case CLOSE_LINE: case OPEN_LINE: open_line(value & LINE); break;
     case WRITE_BYTE: case WRITE_OUTPUT: command = (u8)value; break;
     case RESET: stop(RESTARTED); break;
     }
@@ -128,6 +136,7 @@ void keyboard_out(u32 port, u32 value)
     if (port == 0x64) {
         take_command(value);
     } else if (command) {
+        if (command == WRITE_OUTPUT) put_out(value);
         command = 0;
     } else {
         answer(ACKNOWLEDGED);

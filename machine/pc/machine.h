@@ -56,6 +56,8 @@ void write_text(u32 place, const char *text);
 u32 place_of(u32 segment, u32 offset);
 u32 word_of_stack(u32 at);
 unsigned reach(x86emu_t *emu, u32 place, u32 *value, unsigned type);
+void open_line(u32 is_open);
+u32 is_line_open(void);
 
 /* beam.c: time in nanoseconds, and the dots that are the display's share of it. */
 u64 now(void);

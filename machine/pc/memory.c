@@ -3,7 +3,19 @@
 
 u8 ram[RAM_BYTES] __attribute__((aligned(4096)));
 u8 is_written[PARTS] __attribute__((aligned(4096)));
+u32 high_bytes = HIGH_BYTES;
 enum { NOTHING = 0xFF, BIOS_BEGIN = 0xC0000 };
+
+/* Opens the 21st address line, or closes it: the processor then reaches the megabyte below in place of each odd one. */
+void open_line(u32 is_open)
+{
+    high_bytes = is_open ? HIGH_BYTES : 0;
+}
+
+u32 is_line_open(void)
+{
+    return high_bytes != 0;
+}
 
 u32 read_byte(u32 place)
 {
@@ -62,6 +74,7 @@ u32 word_of_stack(u32 at)
 unsigned reach(x86emu_t *emu, u32 place, u32 *value, unsigned type)
 {
     (void)emu;
+    if (!high_bytes) place &= ~(u32)HIGH_BEGIN;
     switch (type) {
     case X86EMU_MEMIO_X + X86EMU_MEMIO_8:
     case X86EMU_MEMIO_R + X86EMU_MEMIO_8: *value = read_byte(place); break;

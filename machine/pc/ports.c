@@ -26,7 +26,7 @@ u32 port_in(u32 port)
     case 0x60: case 0x64: return keyboard_in(port);
     case SPEAKER: return speaker_in();
     case 0x70: case 0x71: return cmos_in(port);
-    case ADDRESS_GATE: return 2; /* the 21st address line is always open */
+    case ADDRESS_GATE: return is_line_open() << 1;
     case JOYSTICK: return 0xF0;
     }
     return NOTHING;
@@ -37,6 +37,13 @@ static u32 stub_number(void)
 {
     u32 place = processor.x86.saved_eip;
     return place == 0x600 ? 8 : place == 0x623 ? 9 : place / 4;
+}
+
+/* Bit 1 opens the 21st address line, and bit 0 restarts the PC. */
+static void gate_out(u32 value)
+{
+    open_line(value & 2);
+    if (value & 1) stop(RESTARTED);
 }
 
 void port_out(u32 port, u32 value)
@@ -54,6 +61,7 @@ void port_out(u32 port, u32 value)
     case 0x60: case 0x64: keyboard_out(port, value); break;
     case SPEAKER: speaker_out(value); break;
     case 0x70: case 0x71: cmos_out(port, value); break;
+    case ADDRESS_GATE: gate_out(value); break;
     case SERVICE: if (is_bios()) serve(stub_number()); break;
     case START: if (is_bios()) start_software(); break;
     case TYPE: if (is_bios()) type_on(); break;

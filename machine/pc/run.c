@@ -157,14 +157,15 @@ static void tell_processor(x86emu_t *emu)
 
 /* An instruction that the processor lacks is told to the host, whoever handles the fault: in protected mode no stub of
  * the BIOS does. One at the same place is told once. */
-enum { LACKING = 6 };
+enum { LACKING = 6, FLAT = 0x100 }; /* a place past 64 KiB is an offset, and else segment and offset in one */
 static u32 lacking_place;
 static int tell_fault(x86emu_t *emu, u8 number, unsigned type)
 {
-    u32 place = emu->x86.saved_eip > 0xFFFF ? emu->x86.saved_eip : (u32)emu->x86.saved_cs << 16 | emu->x86.saved_eip;
+    u32 is_flat = emu->x86.saved_eip > 0xFFFF;
+    u32 place = is_flat ? emu->x86.saved_eip : (u32)emu->x86.saved_cs << 16 | emu->x86.saved_eip;
     if (number != LACKING || (type & 0xFF) != INTR_TYPE_FAULT || place == lacking_place) return 0;
     lacking_place = place;
-    tell_host(number, place);
+    tell_host(is_flat ? number | FLAT : number, place);
     return 0;
 }
 

@@ -6,6 +6,7 @@ import { LivePicture } from "./livepicture.js";
 import { Snapshot } from "./snapshot.js";
 import { Snapshots } from "./snapshots.js";
 import { isStateOf, stateOf } from "./keptstate.js";
+import { missingText } from "./missing.js";
 import { stopOf } from "./stops.js";
 import { byId, setText } from "../common/dom.js";
 import { grouped } from "../common/bytes.js";
@@ -38,21 +39,6 @@ const REASONS = { ended: "The program has ended.", watch: "The cycle that you as
   refusal: "A cycle was refused.", restarted: "The software asked for a restart.",
   halted: "The processor has halted with interrupts off, and nothing can wake it." };
 const NO_STOP = stopOf("nothing", "");
-const MISSING = { 0x00: "divides by zero", 0x06: "has an instruction that this processor lacks",
-  0x0d: "reaches past the end of a segment", 0x10: "asks for a video function that is refused",
-  0x21: "asks for a function of DOS that is missing" };
-
-/**
- * What the software asked for last, in words. Of instructions that are lacking it is the first: the others may come of
- * that.
- */
-function missingText(missing) {
-  const last = missing.at(-1), isLacking = last.number === 0x06;
-  const { number, value } = isLacking ? missing.find(one => one.number === 0x06) : last;
-  const hexadecimal = value.toString(16).toUpperCase().padStart(4, "0");
-  return `It ${MISSING[number] ?? "asks for what is missing"} (${hexadecimal}).`;
-}
-
 /**
  * A machine in real time. `heard` has `changed()`, when it begins, stops or ends, and `failed(error)`.
  */

@@ -225,6 +225,67 @@ await check(use => {
       assert.ok(await secondsPaused() >= end);
     },
 
+    async "header and footer tell of the program that runs, and of the script once it is off"() {
+      await use.open("#example=hello");
+      await use.until("/All [\\d,]+ answers/.test(document.getElementById('compared').textContent)");
+      const told = async () => [await use.text("state"),
+        await use.value("document.getElementById('compared').checkVisibility() ? document.getElementById('compared').textContent : ''")];
+      const before = await told();
+      await openFile("echo.com", ECHO);
+      await use.until(isLive);
+      assert.deepEqual(await told(), ["echo.com, running", ""]);
+      await browser.click("#liveclose");
+      await use.until(isOff);
+      assert.deepEqual(await told(), before);
+      // What is paused is compared, and of that nothing is told once it goes on.
+      await openFile("echo.com", ECHO);
+      await use.until(isLive);
+      await pause();
+      await use.until("/All [\\d,]+ answers/.test(document.getElementById('compared').textContent)");
+      assert.match(await use.text("state"), /^[\d,]+ steps/);
+      await browser.click("#pausedgo");
+      await use.until(isLive);
+      assert.deepEqual(await told(), ["echo.com, running", ""]);
+    },
+
+    async "a pause in a call of the BIOS shows its stub alone, and lacks nothing"() {
+      await use.open();
+      await openFile("echo.com", ECHO);
+      await use.until(isLive);
+      await pause();
+      await use.until("document.getElementById('code').textContent.includes('iret')");
+      const lines = await use.value("[...document.getElementById('code').children].map(line => line.textContent.trim())");
+      const at = lines.findIndex(line => line.startsWith("F000:0058  out"));
+      assert.deepEqual(lines.slice(at + 1), ["F000:005A  iret"], lines.join("\n"));
+      await browser.click("#pausedgo");
+      await use.until(isLive);
+      await pause();
+      assert.doesNotMatch(await use.text("livestate") + await use.text("pausedtime"), /lacks/);
+    },
+
+    async "a condition is kept to after a stop, and a frame that has passed is told"() {
+      // inc cx; nop; nop; and again
+      await use.open();
+      await openFile("counts.com", code("41 90 90 EBFB"));
+      await use.until(isLive);
+      await stopAt("an instruction", "1000:0101 if CX=500");
+      await use.until(isPaused);
+      const count = async () => {
+        await use.until("document.getElementById('liveregisters').textContent.includes('ECX')");
+        return (await use.text("liveregisters")).match(/ECX ([0-9A-F]+)/)[1];
+      };
+      assert.equal(await count(), "00000500");
+      await stopAt("an instruction", "1000:0101 if CX=7");
+      await browser.click("#pausedgo");
+      await use.until(isPaused);
+      assert.equal(await count(), "00000007");
+      await stopAt("nothing");
+      await browser.click("#pausedgo");
+      await use.until("parseFloat(document.getElementById('livestate').textContent) > 1");
+      await stopAt("a frame", "5");
+      assert.match(await notice(), /^Frame 5 has passed: frame \d+ is under way\./);
+    },
+
     async "a step's registers, code and instruction; and on from there"() {
       await run("lines");
       await use.until("parseFloat(document.getElementById('livestate').textContent) > 1.5");

@@ -42,7 +42,7 @@ struct port {
 /* The page's memory (machine/cpu/memory.h). Beyond MEMORY there is none for a case. */
 enum { PART = 1 << PART_SHIFT, BEYOND = 0xFF };
 u8 ram[RAM_BYTES], is_written[PARTS];
-u32 is_told;
+u32 is_told, high_bytes = HIGH_BYTES;
 static unsigned port_count;
 static struct port ports[MOST_PORTS];
 static unsigned all[OPCODES], differing[OPCODES], lacking[OPCODES];
