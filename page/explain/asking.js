@@ -5,13 +5,13 @@ import { GROUPS } from "../script/registers.js";
 import { Trouble } from "../common/trouble.js";
 import { cssColour, element, selectOf } from "../common/dom.js";
 import { DotSearch, dotOfSeen } from "./dotsearch.js";
+import { heldSource } from "./holding.js";
 import { rowsOfDot } from "./dotrows.js";
-import { sourceAt } from "./way.js";
 import { subjectOf } from "./subjects.js";
 
 /** What the buttons of the cards say. */
 export const ACTIONS = { drawn: "the step that draws it", change: "the last step that changed it",
-  watch: "watch it", stop: "stop when it changes" };
+  moved: "the step that moved it here", watch: "watch it", stop: "stop when it changes" };
 
 /** So many milliseconds a search for the step that drew a dot goes on at a time, and waits. */
 const SLICE_TIME = 8, WAIT_TIME = 30;
@@ -31,7 +31,7 @@ export class Asking {
 
   /**
    * `heard` has `drawn(line, dot)`, `change(subject)`, `watch(words)` and `stop(points)`;
-   * `beamAt(words, seen)` answers the beam of a dot whose change is shown, or null;
+   * `madeAt(words, seen)` answers a dot whose change is shown, as it is drawn, or null;
    * `colourAt(line, dot)` answers the colour of a dot of the picture, or null; `placeOf(line, dot)`
    * where it stands in the window; `isIdle()` whether the run searches for nothing.
    */
@@ -107,7 +107,8 @@ export class Asking {
     const change = this.#action("change", () => this.#heard.change(this.subject));
     const watch = this.#action("watch", closing(() => this.#heard.watch(this.#words)));
     const drawn = () => this.#heard.drawn(this.dot.line, this.dot.dot);
-    const buttons = isDot ? [this.#action("drawn", closing(drawn)), change, watch]
+    const moved = () => this.#heard.change(subjectOf(`move ${this.dot.line} ${this.dot.dot}`));
+    const buttons = isDot ? [this.#action("drawn", closing(drawn)), change, this.#action("moved", moved), watch]
       : [change, watch, this.#action("stop", closing(() => this.#heard.stop(this.subject.points)))];
     return element("p", { className: "actions" }, ...buttons);
   }
@@ -124,8 +125,8 @@ export class Asking {
 
   /** The dot as the step that is shown has changed it, if a search for that change leads here. */
   #changed() {
-    const { after } = this.#seen, beam = this.#heard.beamAt(this.#words, this.#seen);
-    return beam && { state: after, beam, source: sourceAt(after.card, beam), how: "changed" };
+    const { after } = this.#seen, made = this.#heard.madeAt(this.#words, this.#seen);
+    return made && { state: after, ...heldSource(after.card, made), how: "changed" };
   }
 
   /** The dot as it was drawn, if that is known of what is shown. */

@@ -1,11 +1,13 @@
 // The search for the last step that changed a dot of the picture. The page goes to the state in
 // which the dot was drawn, and asks the adapter there where the dot comes from (zak_explain_dot). It
-// then asks the same after each step before. So a step counts if it changes a byte, a register or a
-// colour that the drawn dot comes from, also while the picture shows another part of memory.
+// then asks the same after each step before, at the dot's own place of memory. So a step counts if it changes
+// a byte, a register or a colour that the drawn dot comes from, also while the picture shows another part of memory,
+// or shows this part elsewhere.
 import { KIND } from "../script/steplist.js";
 import { Search } from "../run/points.js";
 import { State } from "../run/state.js";
 import { dotAhead, sourceAt, steady } from "./way.js";
+import { Layout, heldParts, heldSource, isSamePlace } from "./holding.js";
 import { placeBeam } from "./dotfields.js";
 import { colourBy, kindOf } from "./dotrows.js";
 import { hex } from "../common/bytes.js";
@@ -60,13 +62,22 @@ export function differingParts(old, now) {
   return kept.map(name => `${name} ${old[name] ?? "none"} → ${now[name] ?? "none"}`);
 }
 
-/** Watches where the dot at a beam comes from. */
+/** The same for what a dot is made of at its own place: see heldParts. */
+export function differingHeld(old, now) {
+  const name = old.isHeld && now.isHeld ? "parts" : "memory";
+  return differingParts(old[name], now[name]);
+}
+
+/** Watches what a dot is made of, at its own place of memory. */
 class DotWatch {
   /** The struct as the card told it last. */
   #told = new Uint8Array(SOURCE_SIZE);
+  #made;
+  #layout = new Layout();
 
-  constructor(beam) {
-    this.beam = beam;
+  constructor(made) {
+    this.#made = made;
+    this.beam = made.beam;
   }
 
   mayChange({ kind }) {
@@ -75,13 +86,25 @@ class DotWatch {
 
   /** Asks before a step. */
   start(scout) {
-    placeBeam(scout.adapter, steady(this.beam), scout.beam);
-    this.#isOther(scout);
-    this.old = this.#parts(scout);
+    this.old = this.#hold(scout);
   }
 
-  #parts({ card }) {
-    return partsOfDot(sourceAt(card, this.beam));
+  /** What the dot is made of, by a beam that leads to its place. */
+  #hold(scout) {
+    const held = heldSource(scout.card, this.#made);
+    this.beam = held.beam;
+    this.#layout.isOther(scout);
+    placeBeam(scout.adapter, steady(held.beam), scout.beam);
+    this.#isOther(scout);
+    return heldParts(scout.card, this.#made, held, partsOfDot);
+  }
+
+  #now(scout) {
+    const { card } = scout, { isHeld } = this.old, isOther = this.#layout.isOther(scout), source = sourceAt(card, this.beam);
+    if (isHeld ? isSamePlace(source, this.#made.source) : !isOther) {
+      return heldParts(card, this.#made, { source, isHeld }, partsOfDot);
+    }
+    return this.#hold(scout);
   }
 
   /** Asks the card; whether it tells something else than before. */
@@ -98,10 +121,10 @@ class DotWatch {
   }
 
   isChanged(scout) {
-    if (!this.#isOther(scout)) return false;
+    if (!this.#isOther(scout) && this.old.isHeld) return false;
     const { old } = this;
-    this.old = this.#parts(scout);
-    this.differing = differingParts(old, this.old);
+    this.old = this.#now(scout);
+    this.differing = differingHeld(old, this.old);
     return this.differing.length > 0;
   }
 }
@@ -184,8 +207,16 @@ export class DotSearch {
       if (drawn !== undefined) [this.drawnBy, at] = [drawn, drawn - 1];
     }
     while (session.scout.at !== at && !session.scout.seek(at, 8)) yield null;
-    const state = State.of(session.scout.card), found = dotAhead(state, place);
+    const state = State.of(session.scout.card), found = this.#drawnFrom(state, at);
     return { at, made: found && { state, ...found } };
+  }
+
+  /** The dot as it is drawn from a state on: where a step lets a frame pass and draws it anew, as it is then. */
+  #drawnFrom(state, at) {
+    const { place, session: { outline, scout } } = this, entry = outline.entryOf(at);
+    const isLong = this.drawnBy === at + 1 && scout.operations.kind(entry) === KIND.advance;
+    const next = isLong ? dotAhead(state, place, false) : null;
+    return next && next.dots < scout.operations.place(entry) ? next : dotAhead(state, place);
   }
 
   * find() {
@@ -197,7 +228,7 @@ export class DotSearch {
   }
 
   * lastChange(made, to) {
-    const watch = new DotWatch(made.beam);
+    const watch = new DotWatch(made);
     let differing = [];
     // The search meets steps forward from a checkpoint on, and the last of them counts.
     const point = { kind: "watch", watch: { mayChange: operation => watch.mayChange(operation),

@@ -3,6 +3,8 @@
 import { KIND } from "../script/steplist.js";
 import { grouped } from "../common/bytes.js";
 
+const MOST_WORDS = 80;
+
 /** Finds the last steps that changed things, one before the other. */
 export class Finder {
   /** What was found last: { words, session, steps, text, isOlder, subject, told, isCall }. */
@@ -76,8 +78,17 @@ export class Finder {
     const { outline } = session, isCall = outline.kinds[outline.entryOf(steps - 1)] === KIND.int;
     const what = differing.length ? `: ${differing.join("; ")}` : "";
     const name = isCall ? "A cycle inside this BIOS call" : `This ${session.noun}`;
-    this.found = { words, session, steps, text: `${name} changed ${title}${what}.`, subject, told, isCall };
+    const text = `${name} changed ${title}${what}.${this.#movedText(session, told)}`;
+    this.found = { words, session, steps, text, subject, told, isCall };
     return null;
+  }
+
+  /** Which step moved a dot to where it is, in words, if that is another one than the step that changed it. */
+  #movedText({ outline, noun }, { steps, moved }) {
+    if (!moved || moved.steps === steps) return "";
+    const words = outline.wordsOf(outline.entryOf(moved.steps - 1)).slice(0, MOST_WORDS);
+    return ` ${noun[0].toUpperCase()}${noun.slice(1)} ${grouped(moved.steps)}, ${words}, moved the dot here: ` +
+      `${moved.differing.join("; ")}.`;
   }
 
   #hearNone({ words, title }, session, { told, isAgain, isOlder }) {
@@ -103,11 +114,11 @@ export class Finder {
     return found && found.session === session && found.steps === steps ? found.text : "";
   }
 
-  /** The beam that draws a subject's dot, which a search has found changed at a step that is shown; else null. */
-  beamAt(words, { session, steps }) {
+  /** A subject's dot as it is drawn, { beam, source }, which a search has found changed at a step that is shown; else null. */
+  madeAt(words, { session, steps }) {
     const { found } = this;
     const isFound = found?.words === words && found.session === session && found.steps === steps;
-    return isFound ? found.told.made?.beam ?? null : null;
+    return isFound ? found.told.made ?? null : null;
   }
 
   /** Whether what textAt tells of a step is that a change came before these frames. */

@@ -2,6 +2,7 @@
 // field of the BIOS data. Each is spelled in a few words, which stand in the document beside what
 // shows it ("byte 0 07CA"), and which watches keep.
 import { DotSearch } from "./dotsearch.js";
+import { MoveSearch, TwofoldSearch } from "./movesearch.js";
 import { GROUPS, fieldMask, fieldValue } from "../script/registers.js";
 import { Search } from "../run/points.js";
 import { dotAhead } from "./way.js";
@@ -103,12 +104,25 @@ function dotSubject(lineText, dotText) {
     },
     search: (session, steps, again, isDrawn) => (again
       ? new DotSearch(session, place, steps - 1, { told: again })
-      : new DotSearch(session, place, steps, { isDrawn })),
+      : new TwofoldSearch(session, place, steps, { isDrawn })),
     within: (session, told) => new DotSearch(session, place, session.length, { told }) };
 }
 
+/** Where a dot of the picture comes from. */
+function moveSubject(lineText, dotText) {
+  const dot = dotSubject(lineText, dotText);
+  if (!dot) return null;
+  const { place } = dot;
+  return { ...dot, title: `where ${dot.title} comes from`,
+    search: (session, steps, again, isDrawn) => (again
+      ? new MoveSearch(session, place, steps - 1, { told: again })
+      : new MoveSearch(session, place, steps, { isDrawn })),
+    within: (session, told) => new MoveSearch(session, place, session.length,
+      { told: { ...told, frameBegin: told.steps > told.frameBegin ? 0 : Infinity } }) };
+}
+
 const MAKERS = { byte: byteSubject, register: registerSubject, field: fieldSubject,
-  cell: cellSubject, colour: colourSubject, bios: biosSubject, dot: dotSubject,
+  cell: cellSubject, colour: colourSubject, bios: biosSubject, dot: dotSubject, move: moveSubject,
   source: () => singleSubject("source"), dacmask: () => singleSubject("dacmask") };
 
 /**

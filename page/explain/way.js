@@ -51,19 +51,20 @@ const isFirst = ({ line, character, dot }) => !line && !character && !dot;
 
 /**
  * A dot of the picture as the beam draws it from a state on, in the frame under way or in the next:
- * { beam, source, registers, isThisFrame }, the source as zak_explain_dot tells it. Null where no
- * such dot is drawn.
+ * { beam, source, registers, isThisFrame, dots }, the source as zak_explain_dot tells it, after so many
+ * dots. Null where no such dot is drawn. `wanted` is true for the frame under way alone, and false for the next.
  */
-export function dotAhead(state, place) {
+export function dotAhead(state, place, wanted = null) {
   const { registers, beam } = state, { line } = place, clock = state.card.clock();
   for (const found of dotsAhead({ registers, beam, clock }, place, state.drawnOf(line))) {
-    const isShown = found && isDisplayed(state.card, { line, ...found });
+    const isWanted = found && (wanted === null || found.isThisFrame === wanted);
+    const isShown = isWanted && isDisplayed(state.card, { line, ...found });
     if (!isShown) continue;
     const { dots, character, dot, isThisFrame } = found, isUnderWay = isThisFrame && line === beam.line;
     const begin = isUnderWay && !isFirst(beam) ? beam
       : beginOfLine(state, line, isUnderWay ? 0 : dots - place.dot);
     const at = { ...begin, character, dot };
-    return { beam: at, source: sourceAt(state.card, at), registers, isThisFrame };
+    return { beam: at, source: sourceAt(state.card, at), registers, isThisFrame, dots };
   }
   return null;
 }

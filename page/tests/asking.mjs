@@ -85,6 +85,27 @@ const PARTS = {
     assert.equal(await isOpen(), false);
   },
 
+  async "a page that is turned to: who wrote the byte, and who moved it here"() {
+    await load("int ax=13\noutw 3C4 0604\noutw 3D4 0014\noutw 3D4 E317\noutw 3C4 0F02\nframe\noutw 3C4 0202\n" +
+      "put A4001 44\noutw 3D4 400C\nframe\n");
+    await browser.clickAt(...await placeOf(10, 0));
+    await browser.click(action("change"));
+    await stepIs(8, 10);
+    assert.equal(await text("#found"), "This step changed dot 10 of line 0: byte 00 → 44; colour 00 00 00 → 12 09 00. " +
+      "Step 9, outw 3D4 400C, moved the dot here: offset 0001 → 4001.");
+    // After this step the adapter tells of the byte, which the picture does not show yet.
+    assert.match(await text("#asked"), /offset\t4001 of the planes/);
+    await shot("moved");
+    await browser.press("End");
+    await browser.click(action("moved"));
+    await stepIs(9, 10);
+    assert.equal(await text("#found"), "This step changed where dot 10 of line 0 comes from: offset 0001 → 4001.");
+    await browser.press("Enter");
+    await stepIs(4, 10);
+    assert.match(await text("#found"), /offset 0002 → 0001/);
+    await browser.press("Escape");
+  },
+
   async "the step that draws a dot"() {
     await load(readFileSync(`${TOP}examples/tutorial/three-bands.vga`, "utf-8"));
     await browser.clickAt(...await placeOf(100, 150));
@@ -143,7 +164,8 @@ const PARTS = {
     await says("#asked", "2028 of the planes");
     await browser.click(action("change"));
     await stepIs(3, 5);
-    assert.match(await text("#found"), /^This step changed dot 3 of line 2: bits 0 → 2; colour 00 00 00 → 00 2A 00\.$/);
+    assert.equal(await text("#found"), "This step changed dot 3 of line 2: bits 0 → 2; colour 00 00 00 → 00 2A 00. " +
+      "Step 4, outw 3D4 200C, moved the dot here: offset 0028 → 2028.");
     await says("#asked", "00 00 00: the frame of this step shows something else there");
     assert.match(await text("#asked"), /address\s+A2028/);
     await browser.press("Escape");

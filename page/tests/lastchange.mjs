@@ -2,10 +2,12 @@
 // step, of random scripts.
 import assert from "node:assert/strict";
 import test from "node:test";
-import { DotSearch, differingParts, dotOfSeen, partsOfDot } from "../explain/dotsearch.js";
+import { DotSearch, differingHeld, dotOfSeen, partsOfDot } from "../explain/dotsearch.js";
+import { MoveSearch } from "../explain/movesearch.js";
 import { Search } from "../run/points.js";
 import { Session } from "../run/session.js";
-import { dotAhead, sourceAt } from "../explain/way.js";
+import { dotAhead } from "../explain/way.js";
+import { heldParts, heldSource } from "../explain/holding.js";
 import { LONG_SCRIPTS, WATCHED, timesOfSearches } from "./longsearches.mjs";
 import { Random } from "./randomly.mjs";
 import { FONTS, loadAdapter, runWhole } from "./loading.mjs";
@@ -124,9 +126,12 @@ test("the last step, and the next, that changed bytes, registers, colours or BIO
 function lastChangeOf(states, place, at) {
   const made = dotAhead(states[at], place);
   if (!made) return null;
-  const parts = steps => partsOfDot(sourceAt(states[steps].card, made.beam));
+  const parts = steps => {
+    const { card } = states[steps];
+    return heldParts(card, made, heldSource(card, made), partsOfDot);
+  };
   for (let steps = at; steps > 0; steps--) {
-    if (differingParts(parts(steps - 1), parts(steps)).length) return steps;
+    if (differingHeld(parts(steps - 1), parts(steps)).length) return steps;
   }
   return null;
 }
@@ -158,22 +163,24 @@ function randomDot(random, states) {
 }
 
 /** The last step of a text that changed a dot. */
-function last(text, place, isDrawn = true) {
+function last(text, place, isDrawn = true, Search = DotSearch) {
   const session = runWhole(new Session(adapter, FONTS, text));
-  const told = found(new DotSearch(session, place, session.length, { isDrawn }));
+  const told = found(new Search(session, place, session.length, { isDrawn }));
   session.close();
   return told?.steps ?? null;
 }
 
 test("each kind of register that shows in a dot is found changed", () => {
   const place = { line: 0, dot: 3 }, begin = "int ax=12\nput A0000 FF\nin 3DA\n";
-  const wanted = { "out 3C0 32\nout 3C0 7": 5, "out 3C0 33\nout 3C0 1": 5,
+  const wanted = { "out 3C0 32\nout 3C0 7": 5, "out 3C0 33\nout 3C0 1": 2,
     "out 3C0 34\nout 3C0 C": 5,
     "out 3C0 11\nout 3C0 3": 5, "out 3C6 0F": 4, "outw 3C4 2101": 4, "outw 3D4 010C": 1,
     "outw 3CE 0006": 4, "outw 3CE 4005": 4, "outw 3D4 0014\noutw 3D4 E317\noutw 3C4 0102": 2 };
   for (const [steps, found] of Object.entries(wanted)) {
     assert.equal(last(begin + steps, place, false), found, steps);
   }
+  // Panning moves the dot.
+  assert.equal(last(`${begin}out 3C0 33\nout 3C0 1`, place, false, MoveSearch), 5);
 });
 
 test("a register that moves the picture changes no dot: the search goes to what is shown", () => {

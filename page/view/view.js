@@ -163,7 +163,7 @@ export class View {
     this.calls = new CallRoom(this.runner, this.finder, outer => this.#showPlace(outer), this.guarded);
     byId("foundcycle").addEventListener("click", () => this.guarded(() => this.calls.enterFound()));
     this.asking = new Asking({
-      beamAt: (words, seen) => this.finder.beamAt(words, seen),
+      madeAt: (words, seen) => this.finder.madeAt(words, seen),
       drawn: (line, dot) => this.#toDot(line, dot),
       change: subject => this.#findChange(subject),
       watch: words => this.guarded(() => this.#watch(words)),
