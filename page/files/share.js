@@ -10,7 +10,7 @@ import { isSavedRun } from "../machine/savedrun.js";
 import { reasonOfBytes } from "../script/faults.js";
 import { textOfTrace, traceForm } from "./trace.js";
 
-const MAGIC = [0x56, 0x47, 0x41, 0x53], GZIP = [0x1f, 0x8b],
+const MARK = [0xef, 0xbb, 0xbf], MAGIC = [0x56, 0x47, 0x41, 0x53], GZIP = [0x1f, 0x8b],
   PNG = [0x89, 0x50, 0x4e, 0x47];
 // Tab, newline, form feed, carriage return, and the mark that ends old text files.
 const TEXT_CONTROLS = [9, 10, 12, 13, 26];
@@ -116,6 +116,7 @@ export async function contentsOf(bytes, adapter) {
   if (startsWith(bytes, MAGIC)) return { text: printedText(bytes, adapter) };
   const isFonts = bytes.length === FONTS_SIZE && bytes.some(byte => byte === 0 || byte > 126);
   if (isFonts) return { fonts: bytes };
+  if (startsWith(bytes, MARK)) bytes = bytes.subarray(MARK.length);
   const text = new TextDecoder().decode(bytes), form = traceForm(text);
   if (form) return { text: textOfTrace(text), trace: text };
   const begin = bytes.subarray(0, 4096);

@@ -86,6 +86,10 @@ test("what a file is", async () => {
   const text = "int ax=3\nframe ; é\n", bytes = adapter.assemble(text);
   assert.deepEqual(await contentsOf(bytesOf(text), adapter), { text });
   assert.deepEqual(await contentsOf(gzipSync(text), adapter), { text });
+  // A byte order mark says how the text is coded, and is no part of it.
+  const marked = Buffer.concat([Buffer.from("efbbbf", "hex"), Buffer.from(text)]);
+  assert.deepEqual(await contentsOf(new Uint8Array(marked), adapter), { text });
+  assert.deepEqual(await contentsOf(gzipSync(marked), adapter), { text });
   assert.deepEqual(await contentsOf(FONTS, adapter), { fonts: FONTS });
   assert.deepEqual(await contentsOf(bytes, adapter),
     { text: "int ax=0003 bx=0000 cx=0000 dx=0000\nframe\n" });

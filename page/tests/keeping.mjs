@@ -324,6 +324,65 @@ const CHECKS = {
     await textIs(OTHER);
   },
 
+  async "G leads to a step each time, and a number that leads nowhere is typed anew"() {
+    await open("#example=copper-bars");
+    for (const step of ["3", "25", "7"]) {
+      await browser.press("g");
+      await browser.type(step);
+      await browser.press("Enter");
+      await stepIs(step);
+      assert.equal(await browser.value("document.activeElement.tagName"), "BODY");
+    }
+    await browser.press("ArrowRight");
+    await stepIs(8);
+    await browser.press("g");
+    await browser.type("no number");
+    await browser.press("Enter");
+    await until("!document.getElementById('notice').hidden");
+    assert.equal(await browser.value("document.activeElement.id"), "gotonumber");
+    await browser.type("5");
+    await browser.press("Enter");
+    await stepIs(5);
+  },
+
+  async "letters that are typed in the list of scripts lead to an entry, and Enter opens it"() {
+    await open("#example=copper-bars");
+    const list = "document.getElementById('examples')", focus = () => browser.value(`${list}.focus()`);
+    const stays = async () => {
+      await pause();
+      assert.ok(await browser.value("document.title.startsWith('copper-bars')"), await browser.value("document.title"));
+      assert.ok(await browser.value("document.getElementById('machine').hidden"));
+    };
+    await focus();
+    await browser.type("plasma");
+    await stays();
+    assert.match(await browser.value(`${list}.selectedOptions[0].text`), /^plasma/);
+    // Who leaves the list finds what stands there.
+    await browser.value(`${list}.blur()`);
+    await stays();
+    assert.equal(await value("examples"), "copper-bars");
+    await new Promise(done => setTimeout(done, 1500));
+    await focus();
+    await browser.type("driver");
+    await stays();
+    await browser.press("Enter");
+    await until("document.title.startsWith('driver-test')");
+    await until(IDLE);
+    assert.equal(await browser.value("document.activeElement.tagName"), "BODY");
+    // Arrows go from script to script as ever.
+    await focus();
+    await browser.press("ArrowUp");
+    await until("!document.title.startsWith('driver-test')");
+  },
+
+  async "a script with a byte order mark is opened"() {
+    await open();
+    writeFileSync(`${folder}/marked.vga`, "\ufeffint ax=3\nframe\n");
+    await browser.choose("#file", `${folder}/marked.vga`);
+    await textIs("int ax=3\nframe\n");
+    assert.match(await text("state"), /^2 steps/);
+  },
+
   async "after an example was chosen, keys are the page's"() {
     await open();
     await choose("copper-bars");

@@ -35,13 +35,28 @@ export class Desk {
 
   /** Loads what is chosen in the list of scripts. `guarded` tells what went wrong. */
   listenTo(list, guarded) {
-    let key = "";
-    list.addEventListener("pointerdown", () => { key = ""; });
-    list.addEventListener("keydown", event => { ({ key } = event); });
-    list.addEventListener("change", () => {
+    let key = "", isTyped = false;
+    const choose = () => {
+      isTyped = false;
       guarded(() => this.#choose(list.value));
       // Whoever goes through the list by arrows goes on; else the page has the keys then.
       if (!/^Arrow(Up|Down)$/.test(key)) list.blur();
+    };
+    list.addEventListener("pointerdown", () => { key = ""; });
+    list.addEventListener("keydown", event => {
+      ({ key } = event);
+      if (key !== "Enter" || !isTyped) return;
+      event.preventDefault();
+      choose();
+    });
+    list.addEventListener("change", () => {
+      // Letters lead to an entry of the list, and Enter opens it.
+      isTyped = key.length === 1 && key !== " ";
+      if (!isTyped) choose();
+    });
+    list.addEventListener("blur", () => {
+      if (isTyped) this.#scripts.choose();
+      isTyped = false;
     });
   }
 

@@ -83,7 +83,10 @@ export class Keyboard {
     if (this.#orders[control]) return this.#orders[control]();
     const made = byId(control);
     if (control === "text") return this.#editor.focus();
-    if (control === "gotonumber") return made.focus();
+    if (control === "gotonumber") {
+      made.focus();
+      return made.select();
+    }
     if (control === "savemenu") return this.#menu.toggle();
     return made.hidden || made.click();
   }

@@ -43,7 +43,13 @@ export class Transport {
     byId("slider").addEventListener("input", ({ target }) => runner.go(Number(target.value)));
     byId("goto").addEventListener("submit", event => {
       event.preventDefault();
-      guarded(() => this.goTo(byId("gotokind").value, byId("gotonumber").value));
+      const number = byId("gotonumber");
+      number.select();
+      guarded(() => {
+        this.goTo(byId("gotokind").value, number.value);
+        // The page has the keys again. A number that leads nowhere is typed anew.
+        number.blur();
+      });
     });
   }
 
