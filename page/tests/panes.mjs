@@ -99,6 +99,41 @@ await check(use => {
       near(width, room);
     },
 
+    async "on a phone each step leaves the controls where the finger is"() {
+      await browser.look(PHONE);
+      await use.open("#example=copper-bars");
+      await use.value("scrollTo(0, 250)");
+      await use.pause();
+      const seen = async () => [(await placeOf("#transport")).top, (await placeOf("#editor")).top];
+      const first = await seen();
+      for (const key of ["Home", "ArrowRight", "ArrowRight", "ArrowRight", "End", "ArrowLeft"]) {
+        await browser.press(key);
+        await use.pause();
+        assert.deepEqual(await seen(), first, key);
+      }
+    },
+
+    async "a tablet that is turned, and back, has the panes of its width"() {
+      const isTablet = Boolean(browser.send);
+      for (const [long, short] of [[1024, 768], [1280, 800]]) {
+        const turn = async (width, height) => {
+          // A tablet's window tells its width late: in Firefox the window alone is as wide.
+          if (!isTablet) await browser.look({ width, height });
+          else await browser.send("Emulation.setDeviceMetricsOverride", { width, height, deviceScaleFactor: 1, mobile: true });
+          await use.pause();
+          await use.pause();
+        };
+        const splitters = () => use.value("document.querySelectorAll('.splitter:not([hidden])').length");
+        await turn(long, short);
+        await anew();
+        for (const count of [3, 0, 3, 0]) {
+          assert.equal(await splitters(), count, `${long} by ${short}`);
+          if (!count) assert.ok((await placeOf("#picture")).width > short - 30);
+          await (count ? turn(short, long) : turn(long, short));
+        }
+      }
+    },
+
     async "the pointer drags a splitter, which stays after a reload; two clicks bring it back"() {
       await anew();
       const old = await placeOf("#split-script"), [x, y] = middle(old);

@@ -4,7 +4,8 @@
 /** The width of a splitter, in pixels. */
 export const SPLITTER = 7;
 /** Windows of at least so many pixels have two columns, and three. */
-const TWO_COLUMNS = 861, THREE_COLUMNS = 1600;
+export const TWO_COLUMNS = 861;
+const THREE_COLUMNS = 1600;
 
 /**
  * The splits of two and of three columns. A split has the name of its splitter, and what the

@@ -1,10 +1,12 @@
 // The panes of the page, and the splitters between them, which pointer, touch and keys move.
-import { Arrangement } from "./arrangement.js";
+import { Arrangement, TWO_COLUMNS } from "./arrangement.js";
 import { byId, element, setAll } from "../common/dom.js";
 
 /** The pixels by which a key moves a splitter; with Shift. */
 const STEP = 16, LARGE_STEP = 80, FAR = 100000;
 const ARROWS = { x: ["ArrowLeft", "ArrowRight"], y: ["ArrowUp", "ArrowDown"] };
+/** Where the style sheets stack all. A window that was turned tells its own width late, and what it shows may widen it. */
+const NARROW = matchMedia(`(max-width: ${TWO_COLUMNS - 1}px)`);
 const PANES = ["script", "list", "screen", "state"];
 /** The splitters, and the pane behind which each stands in the document. */
 const SPLITTERS = { script: "script", list: "list", state: "screen" };
@@ -23,6 +25,7 @@ export class Panes {
     this.#splitters = new Map(Object.keys(SPLITTERS).map(name => [name, this.#splitterOf(name)]));
     // In the next frame: what is arranged may change the size that is heard of.
     new ResizeObserver(() => requestAnimationFrame(() => this.#arrange())).observe(this.#main);
+    NARROW.addEventListener("change", () => this.#arrange());
     this.#arrange();
   }
 
@@ -39,7 +42,7 @@ export class Panes {
   /** Puts the panes where they belong. */
   #arrange() {
     const { clientWidth, clientHeight } = this.#main, arrangement = this.#arrangement;
-    const { panes, splitters } = arrangement.arrange(innerWidth, clientWidth, clientHeight);
+    const { panes, splitters } = arrangement.arrange(windowWidth(), clientWidth, clientHeight);
     document.body.dataset.columns = arrangement.name;
     for (const name of PANES) place(byId(`${name}pane`), panes.get(name));
     for (const [name, made] of this.#splitters) {
@@ -104,6 +107,11 @@ export class Panes {
     this.#arrangement.moveBy(name, far);
     this.#moved();
   }
+}
+
+/** How wide the window is, as the style sheets see it. */
+function windowWidth() {
+  return NARROW.matches ? Math.min(innerWidth, TWO_COLUMNS - 1) : Math.max(innerWidth, TWO_COLUMNS);
 }
 
 /** Puts an element at a rectangle; without one where the style puts it. */
