@@ -163,7 +163,8 @@ static void count_tick(void)
 
 static void fault(u32 number)
 {
-    tell_host(number, word_of_stack(2) << 16 | word_of_stack(0));
+    u32 place = word_of_stack(2) << 16 | word_of_stack(0);
+    if (number != 0x06 || !is_told_lacking(place)) tell_host(number, place);
     stop(ENDED);
 }
 

@@ -199,6 +199,7 @@ u32 registers(void);
 void note_input(void);
 void begin_machine(void);
 void tell_host(u32 number, u32 value);
+int is_told_lacking(u32 place);
 void load_segments(u32 segment, u32 code, u32 offset, u32 stack);
 void start_software(void);
 

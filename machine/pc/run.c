@@ -157,15 +157,21 @@ static void tell_processor(x86emu_t *emu)
 
 /* An instruction that the processor lacks is told to the host, whoever handles the fault: in protected mode no stub of
  * the BIOS does. One at the same place is told once. */
-enum { LACKING = 6, FLAT = 0x100 }; /* a place past 64 KiB is an offset, and else segment and offset in one */
+enum { LACKING = 6, COPROCESSOR = 7, FLAT = 0x100 }; /* a place past 64 KiB is an offset, and else segment and offset in one */
 static u32 lacking_place;
+int is_told_lacking(u32 place)
+{
+    return place == lacking_place;
+}
+
 static int tell_fault(x86emu_t *emu, u8 number, unsigned type)
 {
     u32 is_flat = emu->x86.saved_eip > 0xFFFF;
     u32 place = is_flat ? emu->x86.saved_eip : (u32)emu->x86.saved_cs << 16 | emu->x86.saved_eip;
     if (number != LACKING || (type & 0xFF) != INTR_TYPE_FAULT || place == lacking_place) return 0;
     lacking_place = place;
-    tell_host(is_flat ? number | FLAT : number, place);
+    u32 is_coprocessors = (read_byte(emu->x86.R_CS_BASE + emu->x86.saved_eip) & 0xF8) == 0xD8;
+    tell_host((is_coprocessors ? COPROCESSOR : LACKING) | (is_flat ? FLAT : 0), place);
     return 0;
 }
 

@@ -38,6 +38,8 @@ const REASONS = { ended: "The program has ended.", watch: "The cycle that you as
   place: "The instruction that you asked for comes next.", mode: "A mode was set.",
   refusal: "A cycle was refused.", restarted: "The software asked for a restart.",
   halted: "The processor has halted with interrupts off, and nothing can wake it." };
+/** Of these ends what the software lacked may be the cause. */
+const ENDS = ["ended", "restarted", "halted"];
 const NO_STOP = stopOf("nothing", "");
 /**
  * A machine in real time. `heard` has `changed()`, when it begins, stops or ends, and `failed(error)`.
@@ -410,7 +412,7 @@ export class Live {
   #stopped() {
     this.reason = REASONS[this.#machine.stopped] ?? "";
     const { missing, stopped } = this.#machine;
-    if (stopped === "ended" && missing.length) this.reason += ` ${missingText(missing)}`;
+    if (ENDS.includes(stopped) && missing.length) this.reason += ` ${missingText(missing)}`;
     this.pause();
   }
 

@@ -375,6 +375,27 @@ const CHECKS = {
     await until("!document.title.startsWith('driver-test')");
   },
 
+  async "the help says what the page is and can do before its keys, and Escape leaves it"() {
+    await open();
+    await browser.press("?");
+    await until("document.getElementById('helpbox').open");
+    const tables = await browser.value("[...document.querySelectorAll('#keys caption')].map(one => one.textContent)");
+    assert.deepEqual(tables, ["What you can do", "Keys", "Keys in the script", "Keys in the list of steps"]);
+    const told = await text("keys");
+    for (const words of ["VGA display adapter", "Run your game", "Drop it on the page", "Click the dot"]) {
+      assert.ok(told.includes(words), words);
+    }
+    // All of it can be read, on a phone too.
+    await browser.look({ width: 390, height: 844 });
+    await pause();
+    const fits = await browser.value(`(() => { const box = document.getElementById("helpbox");
+      return box.scrollWidth <= box.clientWidth + 1 && box.clientHeight <= innerHeight; })()`);
+    assert.ok(fits);
+    await browser.look(WINDOW);
+    await browser.press("Escape");
+    await until("!document.getElementById('helpbox').open");
+  },
+
   async "a script with a byte order mark is opened"() {
     await open();
     writeFileSync(`${folder}/marked.vga`, "\ufeffint ax=3\nframe\n");

@@ -346,6 +346,20 @@ test("a frame that has passed is told, while it runs and while it is paused; one
   live.close();
 });
 
+test("software that gives up says why, if something was lacking", () => {
+  // Interrupt 6 leads to: cli; hlt. Then fld1.
+  const lacks = "31C0 8EC0 26C70618001301 268C0E1A00 D9E8 FA F4";
+  const live = running(lacks);
+  page.turnUntil(() => live.state === "paused");
+  assert.equal(live.reason, "The processor has halted with interrupts off, and nothing can wake it. " +
+    "It uses a coprocessor, which this machine lacks (1000:0110).");
+  live.close();
+  const other = running("FA F4");
+  page.turnUntil(() => other.state === "paused");
+  assert.equal(other.reason, "The processor has halted with interrupts off, and nothing can wake it.");
+  other.close();
+});
+
 test("a saved run has its speed and its keys, until somebody does something", () => {
   const { live } = made(), inputs = [{ time: 0, does: "set_instruction_time", values: [SPEEDS[8088]] },
     { time: SECOND / 10, does: "key", values: [0x1e, 0x1e61] },

@@ -102,8 +102,8 @@ test("there is no coprocessor: the questions are answered, and nothing is lackin
   // Who uses one all the same is told of.
   const other = started({ program: assembled("fninit", "fld1", "jmp $") });
   other.run(SECOND / 10);
-  assert.deepEqual(other.missing.map(({ number, value }) => [number, value]), [[6, 0x10000102]]);
-  assert.equal(missingText(other.missing), "It has an instruction that this processor lacks (1000:0102).");
+  assert.deepEqual(other.missing.map(({ number, value }) => [number, value]), [[7, 0x10000102]]);
+  assert.equal(missingText(other.missing), "It uses a coprocessor, which this machine lacks (1000:0102).");
 });
 
 test("software that does a coprocessor's work itself gets interrupt 7 for each of its instructions", () => {
@@ -201,6 +201,7 @@ test("what is missing is told by its place, with a colon, or by its call", () =>
   const text = (number, value) => missingText([{ number, value }]);
   assert.equal(text(6, 0xf000005d), "It has an instruction that this processor lacks (F000:005D).");
   assert.equal(text(0x106, 0x102345), "It has an instruction that this processor lacks (00102345).");
+  assert.equal(text(0x107, 0x102345), "It uses a coprocessor, which this machine lacks (00102345).");
   assert.equal(text(0, 0x10000103), "It divides by zero (1000:0103).");
   assert.equal(text(0x21, 0x4b00), "It asks for a function of DOS that is missing (AX 4B00).");
   assert.equal(missingText([{ number: 6, value: 1 }, { number: 6, value: 2 }]),

@@ -82,9 +82,7 @@ export function keyTables() {
   const table = (title, rows) => element("table", {}, element("caption", {}, title),
     element("tbody", {}, ...rows.filter(([keys]) => keys).map(row)));
   const hints = ["Click a line's number to set a breakpoint. " +
-    "Click a dot of the picture to ask where it comes from.",
-  "Drop a script, a program, a folder with one, a disk, a font or a trace anywhere. " +
-    "A report, a trace or a PNG of another adapter is compared with the run. " +
+    "Drop a script, a font or a trace anywhere to open it. " +
     "Drag a line between two parts of the page, or go to it by Tab: arrows move it.",
   ].map(text => element("p", {}, text));
   return [table("Keys", KEYS), table("Keys in the script", IN_THE_SCRIPT),

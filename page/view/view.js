@@ -1,5 +1,6 @@
 // The page: its parts, and what each hears of the others.
 import { Adapter } from "../run/adapter.js";
+import { aboutPage } from "./about.js";
 import { Asking } from "../explain/asking.js";
 import { BiosPanel } from "../panels/biospanel.js";
 import { CallRoom } from "./callroom.js";
@@ -297,7 +298,7 @@ export class View {
         fill: () => this.size.choose(0), nextview: () => this.comparison.nextView(), ask: () => this.#ask(),
         again: () => this.#findAgain(), into: () => this.#enterCall(),
         intonext: () => this.guarded(() => this.calls.enterNext()), out: () => this.calls.leave() } });
-    byId("keys").append(...keyTables());
+    byId("keys").append(...aboutPage(), ...keyTables());
     byId("version").textContent = `Zaklimot ${this.data.version}.`;
     byId("pagedoc").href = `${this.data.pages}PAGE.md#what-is-proved`;
     addEventListener("hashchange", () => this.#follow());
