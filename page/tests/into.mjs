@@ -38,7 +38,6 @@ async function goTo(step) {
   await browser.selectAll();
   await browser.type(String(step));
   await press("Enter");
-  await browser.press("Escape");
 }
 
 async function shot(name) {

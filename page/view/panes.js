@@ -5,8 +5,6 @@ import { byId, element, setAll } from "../common/dom.js";
 /** The pixels by which a key moves a splitter; with Shift. */
 const STEP = 16, LARGE_STEP = 80, FAR = 100000;
 const ARROWS = { x: ["ArrowLeft", "ArrowRight"], y: ["ArrowUp", "ArrowDown"] };
-/** Where the style sheets stack all. A window that was turned tells its own width late, and what it shows may widen it. */
-const NARROW = matchMedia(`(max-width: ${TWO_COLUMNS - 1}px)`);
 const PANES = ["script", "list", "screen", "state"];
 /** The splitters, and the pane behind which each stands in the document. */
 const SPLITTERS = { script: "script", list: "list", state: "screen" };
@@ -17,6 +15,8 @@ export class Panes {
   #arrangement;
   #settings;
   #splitters;
+  /** Where the style sheets stack all. A window that was turned tells its own width late, and what it shows may widen it. */
+  #narrow = matchMedia(`(max-width: ${TWO_COLUMNS - 1}px)`);
 
   /** `settings` keeps where the splitters are. */
   constructor(settings) {
@@ -25,7 +25,7 @@ export class Panes {
     this.#splitters = new Map(Object.keys(SPLITTERS).map(name => [name, this.#splitterOf(name)]));
     // In the next frame: what is arranged may change the size that is heard of.
     new ResizeObserver(() => requestAnimationFrame(() => this.#arrange())).observe(this.#main);
-    NARROW.addEventListener("change", () => this.#arrange());
+    this.#narrow.addEventListener("change", () => this.#arrange());
     this.#arrange();
   }
 
@@ -42,7 +42,7 @@ export class Panes {
   /** Puts the panes where they belong. */
   #arrange() {
     const { clientWidth, clientHeight } = this.#main, arrangement = this.#arrangement;
-    const { panes, splitters } = arrangement.arrange(windowWidth(), clientWidth, clientHeight);
+    const { panes, splitters } = arrangement.arrange(this.#windowWidth, clientWidth, clientHeight);
     document.body.dataset.columns = arrangement.name;
     for (const name of PANES) place(byId(`${name}pane`), panes.get(name));
     for (const [name, made] of this.#splitters) {
@@ -51,6 +51,11 @@ export class Panes {
       place(made, splitters.get(name));
       this.#describe(name, made);
     }
+  }
+
+  /** How wide the window is, as the style sheets see it. */
+  get #windowWidth() {
+    return this.#narrow.matches ? Math.min(innerWidth, TWO_COLUMNS - 1) : Math.max(innerWidth, TWO_COLUMNS);
   }
 
   /** Tells assistive technology of a splitter. */
@@ -107,11 +112,6 @@ export class Panes {
     this.#arrangement.moveBy(name, far);
     this.#moved();
   }
-}
-
-/** How wide the window is, as the style sheets see it. */
-function windowWidth() {
-  return NARROW.matches ? Math.min(innerWidth, TWO_COLUMNS - 1) : Math.max(innerWidth, TWO_COLUMNS);
 }
 
 /** Puts an element at a rectangle; without one where the style puts it. */
