@@ -312,54 +312,55 @@ APART static u32 f125(module *, u64, u32, u32);
 static u32 f126(module *, u64, u32, u32);
 static void f127(module *, u64, u64, u32, u32, u32);
 static u32 f128(module *, u64, u32, u32);
-static u32 f129(module *, u64, u64, u32, u64, u64, u32);
-APART static u32 f130(module *, u64, u32, u32);
-static void f131(module *, u64, u64, u32, u32);
-static void f132(module *, u64);
-static void f133(module *, u64, u64, u64, u64, u32, u32);
-static void f134(module *, u64, u64, u64, u64);
-static u32 f135(module *, u64, u64);
-static void f136(module *, u64, u64);
-static void f137(module *, u64, u64, u32, u32, u32, u32);
-static void f138(module *, u64, u64);
-static void f139(module *, u64, u64, u64, u64, u64, u64);
-static void f140(module *, u64, u64, u64);
-static void f141(module *, u64, u64, u64, u64);
-static void f142(module *, u64);
-static void f143(module *, u64, u64, u64);
-static void f144(module *, u64, u64);
-static void f145(module *, u64, u64, u32);
-static void f146(module *, u64, u64, u32, u32, u32);
-static void f147(module *, u64, u64);
-static void f148(module *, u64, u64, u64, u32);
-static void f149(module *, u64, u64, u64, u32, u64, u64);
-static void f150(module *, u64, u64, u64, u32);
-static void f151(module *, u64, u64, u64, u64);
-static void f152(module *, u64, u64, u64, u32, u32);
-static void f153(module *, u64, u64, u32, u32, u32);
-static void f154(module *, u64, u64, u32, u32);
+APART static u32 f129(module *, u64, u32, u32);
+static u32 f130(module *, u64, u64, u32, u64, u64, u32);
+APART static u32 f131(module *, u64, u32, u32);
+static void f132(module *, u64, u64, u32, u32);
+static void f133(module *, u64);
+static void f134(module *, u64, u64, u64, u64, u32, u32);
+static void f135(module *, u64, u64, u64, u64);
+static u32 f136(module *, u64, u64);
+static void f137(module *, u64, u64);
+static void f138(module *, u64, u64, u32, u32, u32, u32);
+static void f139(module *, u64, u64);
+static void f140(module *, u64, u64, u64, u64, u64, u64);
+static void f141(module *, u64, u64, u64);
+static void f142(module *, u64, u64, u64, u64);
+static void f143(module *, u64);
+static void f144(module *, u64, u64, u64);
+static void f145(module *, u64, u64);
+static void f146(module *, u64, u64, u32);
+static void f147(module *, u64, u64, u32, u32, u32);
+static void f148(module *, u64, u64);
+static void f149(module *, u64, u64, u64, u32);
+static void f150(module *, u64, u64, u64, u32, u64, u64);
+static void f151(module *, u64, u64, u64, u32);
+static void f152(module *, u64, u64, u64, u64);
+static void f153(module *, u64, u64, u64, u32, u32);
+static void f154(module *, u64, u64, u32, u32, u32);
 static void f155(module *, u64, u64, u32, u32);
-static void f156(module *, u64, u64, u64, u32);
-static void f157(module *, u64, u64, u32, u32);
-static void f158(module *, u64, u64, u32, u64);
-static void f159(module *, u64, u64, u32, u64, u32, u32);
-static void f160(module *, u64, u64);
-static u32 f161(module *, u64, u64, u64);
-static void f162(module *, u64, u64, u32);
-static u32 f163(module *, u64, u64, u64);
-static void f164(module *, u64, u64);
-static u32 f165(module *, u64, u64, u64);
-static u32 f166(module *, u64, u64);
-static void f167(module *, u64, u64, u64, u64, u64, u64, u64);
-static u32 f168(module *, u64, u64);
-static void f169(module *, u64, u64, u64, u64);
-static void f170(module *, u64, u64, u64, u64, u64);
-static void f171(module *, u64, u64, u64, u64);
-static void f172(module *, u64, u64, u64, u64, u64, u64);
-static void f173(module *, u64, u64, u64);
-static u32 f174(module *, u64);
+static void f156(module *, u64, u64, u32, u32);
+static void f157(module *, u64, u64, u64, u32);
+static void f158(module *, u64, u64, u32, u32);
+static void f159(module *, u64, u64, u32, u64);
+static void f160(module *, u64, u64, u32, u64, u32, u32);
+static void f161(module *, u64, u64);
+static u32 f162(module *, u64, u64, u64);
+static void f163(module *, u64, u64, u32);
+static u32 f164(module *, u64, u64, u64);
+static void f165(module *, u64, u64);
+static u32 f166(module *, u64, u64, u64);
+static u32 f167(module *, u64, u64);
+static void f168(module *, u64, u64, u64, u64, u64, u64, u64);
+static u32 f169(module *, u64, u64);
+static void f170(module *, u64, u64, u64, u64);
+static void f171(module *, u64, u64, u64, u64, u64);
+static void f172(module *, u64, u64, u64, u64);
+static void f173(module *, u64, u64, u64, u64, u64, u64);
+static void f174(module *, u64, u64, u64);
 static u32 f175(module *, u64);
-static u32 f176(module *, u64, u64, u64, u64, u64);
+static u32 f176(module *, u64);
+static u32 f177(module *, u64, u64, u64, u64, u64);
 static u32 module_zak_advance(module *, u64, u32);
 static u32 module_zak_assemble(module *, u64, u64, u64, u64, u64, u64);
 static u32 module_zak_block(module *, u64, u64, u64);
@@ -424,10 +425,10 @@ static u32 module_zak_status_text(module *, u32, u64, u64, u64);
 static u32 module_zak_version(module *);
 static u64 module_page_take(module *, u64);
 static u32 module_page_give(module *, u64);
-static void f241(module *, u64, u64, u64);
-static u64 f242(module *, u64);
-static void f243(module *, u64, u64, u64, u64, u64);
-static void f244(module *, u64);
+static void f242(module *, u64, u64, u64);
+static u64 f243(module *, u64);
+static void f244(module *, u64, u64, u64, u64, u64);
+static void f245(module *, u64);
 
 static void f0(module *self, u64 p0, u64 p1, u64 p2, u64 p3, u64 p4) {
   u64 l5 = 0, l6 = 0;
@@ -5306,7 +5307,7 @@ static u32 f4(module *self, u64 p0, u64 p1) {
   j2 = l3;
   j3 = p1;
   j4 = 1ull;
-  f243(self, j0, j1, j2, j3, j4); m = self->memory; if (NEVER(self->is_broken)) return ZAK_BROKEN;
+  f244(self, j0, j1, j2, j3, j4); m = self->memory; if (NEVER(self->is_broken)) return ZAK_BROKEN;
   j0 = l2;
   i0 = (u32)(j0);
   j0 = i64_load(j0 + 16u);
@@ -5324,7 +5325,7 @@ static u32 f4(module *self, u64 p0, u64 p1) {
   j0 = l2;
   j1 = l5;
   j2 = 1ull;
-  f241(self, j0, j1, j2); m = self->memory; if (NEVER(self->is_broken)) return ZAK_BROKEN;
+  f242(self, j0, j1, j2); m = self->memory; if (NEVER(self->is_broken)) return ZAK_BROKEN;
   j0 = l2;
   i0 = (u32)(j0);
   j0 = i64_load(j0);
@@ -11845,7 +11846,7 @@ static void f16(module *self, u64 p0, u64 p1, u64 p2) {
     j0 = l3;
     i0 = (u32)(j0);
     j0 = i64_load(j0 + 16u);
-    f244(self, j0);
+    f245(self, j0);
     B58:;
     j0 = l7;
     l5 = j0;
@@ -11906,7 +11907,7 @@ static void f16(module *self, u64 p0, u64 p1, u64 p2) {
   i0 = !(j0);
   if (i0) {goto B6;}
   j0 = l8;
-  f244(self, j0);
+  f245(self, j0);
   B6:;
   j0 = 0ull;
   l10 = j0;
@@ -11925,7 +11926,7 @@ static void f16(module *self, u64 p0, u64 p1, u64 p2) {
   j0 = l3;
   i0 = (u32)(j0);
   j0 = i64_load(j0 + 16u);
-  f244(self, j0);
+  f245(self, j0);
   goto B1;
   B3:;
   i0 = 9u;
@@ -11938,7 +11939,7 @@ static void f16(module *self, u64 p0, u64 p1, u64 p2) {
   j0 = l3;
   i0 = (u32)(j0);
   j0 = i64_load(j0 + 16u);
-  f244(self, j0);
+  f245(self, j0);
   goto B1;
   B2:;
   i0 = 9u;
@@ -11951,7 +11952,7 @@ static void f16(module *self, u64 p0, u64 p1, u64 p2) {
   j0 = l3;
   i0 = (u32)(j0);
   j0 = i64_load(j0 + 16u);
-  f244(self, j0);
+  f245(self, j0);
   B1:;
   i0 = l24;
   j0 = (u64)(i0);
@@ -12440,7 +12441,7 @@ static u32 f18(module *self, u64 p0, u64 p1) {
   j2 = l3;
   j3 = p1;
   j4 = 1ull;
-  f243(self, j0, j1, j2, j3, j4); m = self->memory; if (NEVER(self->is_broken)) return ZAK_BROKEN;
+  f244(self, j0, j1, j2, j3, j4); m = self->memory; if (NEVER(self->is_broken)) return ZAK_BROKEN;
   j0 = l2;
   i0 = (u32)(j0);
   j0 = i64_load(j0 + 16u);
@@ -12458,7 +12459,7 @@ static u32 f18(module *self, u64 p0, u64 p1) {
   j0 = l2;
   j1 = l5;
   j2 = 1ull;
-  f241(self, j0, j1, j2); m = self->memory; if (NEVER(self->is_broken)) return ZAK_BROKEN;
+  f242(self, j0, j1, j2); m = self->memory; if (NEVER(self->is_broken)) return ZAK_BROKEN;
   j0 = l2;
   i0 = (u32)(j0);
   j0 = i64_load(j0);
@@ -13124,7 +13125,7 @@ static void f20(module *self, u64 p0, u64 p1, u64 p2, u64 p3) {
   j0 = l4;
   i0 = (u32)(j0);
   j0 = i64_load(j0 + 112u);
-  f244(self, j0);
+  f245(self, j0);
   B4:;
   j0 = p0;
   i0 = (u32)(j0);
@@ -13150,7 +13151,7 @@ static void f20(module *self, u64 p0, u64 p1, u64 p2, u64 p3) {
   j0 = l4;
   i0 = (u32)(j0);
   j0 = i64_load(j0 + 112u);
-  f244(self, j0);
+  f245(self, j0);
   B5:;
   j0 = p0;
   i0 = (u32)(j0);
@@ -13178,7 +13179,7 @@ static void f20(module *self, u64 p0, u64 p1, u64 p2, u64 p3) {
   j0 = l4;
   i0 = (u32)(j0);
   j0 = i64_load(j0 + 112u);
-  f244(self, j0);
+  f245(self, j0);
   B6:;
   j0 = p0;
   i0 = (u32)(j0);
@@ -13198,7 +13199,7 @@ static void f20(module *self, u64 p0, u64 p1, u64 p2, u64 p3) {
   j0 = l4;
   i0 = (u32)(j0);
   j0 = i64_load(j0 + 112u);
-  f244(self, j0);
+  f245(self, j0);
   B7:;
   j0 = p0;
   i0 = (u32)(j0);
@@ -13989,7 +13990,7 @@ static void f24(module *self, u64 p0, u64 p1, u64 p2, u64 p3) {
   i0 = !(j0);
   if (i0) {goto B49;}
   j0 = l5;
-  f244(self, j0);
+  f245(self, j0);
   B49:;
   i0 = l15;
   i1 = 16u;
@@ -24900,7 +24901,7 @@ static void f28(module *self, u64 p0, u64 p1, u64 p2) {
       j1 >>= (j2 & 63);
       l8 = j1;
       j2 = 1ull;
-      f241(self, j0, j1, j2); m = self->memory; if (NEVER(self->is_broken)) return;
+      f242(self, j0, j1, j2); m = self->memory; if (NEVER(self->is_broken)) return;
       i0 = 1u;
       l12 = i0;
       j0 = l3;
@@ -25124,7 +25125,7 @@ static void f28(module *self, u64 p0, u64 p1, u64 p2) {
       if (i0) {goto B11;}
       B19:;
       j0 = l4;
-      f244(self, j0);
+      f245(self, j0);
       goto B11;
       B13:;
       j0 = p2;
@@ -31145,7 +31146,7 @@ static void f36(module *self, u64 p0) {
   j0 += j1;
   j1 = 262144ull;
   j2 = 4ull;
-  f241(self, j0, j1, j2); m = self->memory; if (NEVER(self->is_broken)) return;
+  f242(self, j0, j1, j2); m = self->memory; if (NEVER(self->is_broken)) return;
   j0 = l1;
   i0 = (u32)(j0);
   j0 = i64_load(j0 + 32u);
@@ -31168,7 +31169,7 @@ static void f36(module *self, u64 p0) {
   j0 += j1;
   j1 = 7077888ull;
   j2 = 1ull;
-  f241(self, j0, j1, j2); m = self->memory; if (NEVER(self->is_broken)) return;
+  f242(self, j0, j1, j2); m = self->memory; if (NEVER(self->is_broken)) return;
   j0 = l1;
   i0 = (u32)(j0);
   j0 = i64_load(j0 + 24u);
@@ -31191,7 +31192,7 @@ static void f36(module *self, u64 p0) {
   j0 = l1;
   j1 = 4096ull;
   j2 = 4ull;
-  f241(self, j0, j1, j2); m = self->memory; if (NEVER(self->is_broken)) return;
+  f242(self, j0, j1, j2); m = self->memory; if (NEVER(self->is_broken)) return;
   j0 = l1;
   i0 = (u32)(j0);
   j0 = i64_load(j0);
@@ -31200,7 +31201,7 @@ static void f36(module *self, u64 p0) {
   i0 &= i1;
   if (i0) {goto B3;}
   j0 = l4;
-  f244(self, j0);
+  f245(self, j0);
   j0 = 9ull;
   l3 = j0;
   goto B1;
@@ -31752,7 +31753,7 @@ static void f36(module *self, u64 p0) {
   l3 = j0;
   B1:;
   j0 = l2;
-  f244(self, j0);
+  f245(self, j0);
   j0 = p0;
   j1 = 8ull;
   j0 += j1;
@@ -35356,7 +35357,7 @@ static void f40(module *self, u64 p0, u64 p1, u64 p2, u64 p3, u64 p4, u64 p5, u6
   j1 *= j2;
   p6 = j1;
   j2 = 1ull;
-  f241(self, j0, j1, j2); m = self->memory; if (NEVER(self->is_broken)) return;
+  f242(self, j0, j1, j2); m = self->memory; if (NEVER(self->is_broken)) return;
   i0 = 1u;
   l45 = i0;
   j0 = 0ull;
@@ -35397,7 +35398,7 @@ static void f40(module *self, u64 p0, u64 p1, u64 p2, u64 p3, u64 p4, u64 p5, u6
   j0 += j1;
   j1 = 24ull;
   j2 = 8ull;
-  f241(self, j0, j1, j2); m = self->memory; if (NEVER(self->is_broken)) return;
+  f242(self, j0, j1, j2); m = self->memory; if (NEVER(self->is_broken)) return;
   i0 = 1u;
   l45 = i0;
   j0 = l7;
@@ -35408,7 +35409,7 @@ static void f40(module *self, u64 p0, u64 p1, u64 p2, u64 p3, u64 p4, u64 p5, u6
   i0 &= i1;
   if (i0) {goto B30;}
   j0 = l9;
-  f244(self, j0);
+  f245(self, j0);
   goto B7;
   B30:;
   j0 = l7;
@@ -89586,7 +89587,7 @@ static void f106(module *self, u64 p0, u64 p1, u64 p2, u64 p3, u64 p4, u64 p5, u
   j1 *= j2;
   l8 = j1;
   j2 = 1ull;
-  f241(self, j0, j1, j2); m = self->memory; if (NEVER(self->is_broken)) return;
+  f242(self, j0, j1, j2); m = self->memory; if (NEVER(self->is_broken)) return;
   i0 = 1u;
   l20 = i0;
   i0 = 0u;
@@ -89629,7 +89630,7 @@ static void f106(module *self, u64 p0, u64 p1, u64 p2, u64 p3, u64 p4, u64 p5, u
   j0 += j1;
   j1 = 24ull;
   j2 = 8ull;
-  f241(self, j0, j1, j2); m = self->memory; if (NEVER(self->is_broken)) return;
+  f242(self, j0, j1, j2); m = self->memory; if (NEVER(self->is_broken)) return;
   i0 = 1u;
   l20 = i0;
   j0 = l7;
@@ -89640,7 +89641,7 @@ static void f106(module *self, u64 p0, u64 p1, u64 p2, u64 p3, u64 p4, u64 p5, u
   i0 &= i1;
   if (i0) {goto B40;}
   j0 = p2;
-  f244(self, j0);
+  f245(self, j0);
   i0 = 0u;
   l60 = i0;
   goto B10;
@@ -102574,7 +102575,7 @@ static void f118(module *self, u64 p0, u64 p1, u64 p2) {
   j0 += j1;
   j1 = 2048ull;
   j2 = 1ull;
-  f241(self, j0, j1, j2); m = self->memory; if (NEVER(self->is_broken)) return;
+  f242(self, j0, j1, j2); m = self->memory; if (NEVER(self->is_broken)) return;
   j0 = l3;
   i0 = (u32)(j0);
   j0 = i64_load(j0 + 80u);
@@ -102664,7 +102665,7 @@ static void f118(module *self, u64 p0, u64 p1, u64 p2) {
   j0 += j1;
   j1 = 24ull;
   j2 = 8ull;
-  f241(self, j0, j1, j2); m = self->memory; if (NEVER(self->is_broken)) return;
+  f242(self, j0, j1, j2); m = self->memory; if (NEVER(self->is_broken)) return;
   j0 = l3;
   i0 = (u32)(j0);
   j0 = i64_load(j0 + 64u);
@@ -102673,7 +102674,7 @@ static void f118(module *self, u64 p0, u64 p1, u64 p2) {
   i0 &= i1;
   if (i0) {goto B2;}
   j0 = l4;
-  f244(self, j0);
+  f245(self, j0);
   B3:;
   j0 = p0;
   i0 = (u32)(j0);
@@ -102737,7 +102738,7 @@ static void f118(module *self, u64 p0, u64 p1, u64 p2) {
   j0 += j1;
   j1 = 3584ull;
   j2 = 1ull;
-  f241(self, j0, j1, j2); m = self->memory; if (NEVER(self->is_broken)) return;
+  f242(self, j0, j1, j2); m = self->memory; if (NEVER(self->is_broken)) return;
   j0 = l3;
   i0 = (u32)(j0);
   j0 = i64_load(j0 + 48u);
@@ -102830,7 +102831,7 @@ static void f118(module *self, u64 p0, u64 p1, u64 p2) {
   j0 += j1;
   j1 = 24ull;
   j2 = 8ull;
-  f241(self, j0, j1, j2); m = self->memory; if (NEVER(self->is_broken)) return;
+  f242(self, j0, j1, j2); m = self->memory; if (NEVER(self->is_broken)) return;
   j0 = l3;
   i0 = (u32)(j0);
   j0 = i64_load(j0 + 32u);
@@ -102839,7 +102840,7 @@ static void f118(module *self, u64 p0, u64 p1, u64 p2) {
   i0 &= i1;
   if (i0) {goto B7;}
   j0 = l4;
-  f244(self, j0);
+  f245(self, j0);
   B8:;
   j0 = l7;
   i0 = (u32)(j0);
@@ -102850,12 +102851,12 @@ static void f118(module *self, u64 p0, u64 p1, u64 p2) {
   j0 = i64_load(j0 + 16u);
   p2 = j0;
   j0 = l7;
-  f244(self, j0);
+  f245(self, j0);
   j0 = p2;
   i0 = !(j0);
   if (i0) {goto B12;}
   j0 = l5;
-  f244(self, j0);
+  f245(self, j0);
   B12:;
   j0 = p0;
   i0 = (u32)(j0);
@@ -102919,7 +102920,7 @@ static void f118(module *self, u64 p0, u64 p1, u64 p2) {
   j0 += j1;
   j1 = 4096ull;
   j2 = 1ull;
-  f241(self, j0, j1, j2); m = self->memory; if (NEVER(self->is_broken)) return;
+  f242(self, j0, j1, j2); m = self->memory; if (NEVER(self->is_broken)) return;
   j0 = l3;
   i0 = (u32)(j0);
   j0 = i64_load(j0 + 16u);
@@ -103010,7 +103011,7 @@ static void f118(module *self, u64 p0, u64 p1, u64 p2) {
   j0 = l3;
   j1 = 24ull;
   j2 = 8ull;
-  f241(self, j0, j1, j2); m = self->memory; if (NEVER(self->is_broken)) return;
+  f242(self, j0, j1, j2); m = self->memory; if (NEVER(self->is_broken)) return;
   j0 = l3;
   i0 = (u32)(j0);
   j0 = i64_load(j0);
@@ -103019,7 +103020,7 @@ static void f118(module *self, u64 p0, u64 p1, u64 p2) {
   i0 &= i1;
   if (i0) {goto B13;}
   j0 = l4;
-  f244(self, j0);
+  f245(self, j0);
   B14:;
   j0 = l8;
   i0 = (u32)(j0);
@@ -103030,12 +103031,12 @@ static void f118(module *self, u64 p0, u64 p1, u64 p2) {
   j0 = i64_load(j0 + 16u);
   p2 = j0;
   j0 = l8;
-  f244(self, j0);
+  f245(self, j0);
   j0 = p2;
   i0 = !(j0);
   if (i0) {goto B18;}
   j0 = l5;
-  f244(self, j0);
+  f245(self, j0);
   B18:;
   j0 = l7;
   i0 = (u32)(j0);
@@ -103046,12 +103047,12 @@ static void f118(module *self, u64 p0, u64 p1, u64 p2) {
   j0 = i64_load(j0 + 16u);
   p2 = j0;
   j0 = l7;
-  f244(self, j0);
+  f245(self, j0);
   j0 = p2;
   i0 = !(j0);
   if (i0) {goto B19;}
   j0 = l5;
-  f244(self, j0);
+  f245(self, j0);
   B19:;
   j0 = p0;
   i0 = (u32)(j0);
@@ -103413,12 +103414,12 @@ static void f119(module *self, u64 p0, u64 p1) {
   j0 = i64_load(j0 + 16u);
   l8 = j0;
   j0 = l3;
-  f244(self, j0);
+  f245(self, j0);
   j0 = l8;
   i0 = !(j0);
   if (i0) {goto B2;}
   j0 = l7;
-  f244(self, j0);
+  f245(self, j0);
   B2:;
   i0 = l10;
   i1 = 255u;
@@ -103435,12 +103436,12 @@ static void f119(module *self, u64 p0, u64 p1) {
   j0 = i64_load(j0 + 16u);
   l3 = j0;
   j0 = l4;
-  f244(self, j0);
+  f245(self, j0);
   j0 = l3;
   i0 = !(j0);
   if (i0) {goto B3;}
   j0 = l8;
-  f244(self, j0);
+  f245(self, j0);
   B3:;
   j0 = l6;
   j1 = 255ull;
@@ -103461,12 +103462,12 @@ static void f119(module *self, u64 p0, u64 p1) {
   j0 = i64_load(j0 + 16u);
   l4 = j0;
   j0 = p1;
-  f244(self, j0);
+  f245(self, j0);
   j0 = l4;
   i0 = !(j0);
   if (i0) {goto B4;}
   j0 = l6;
-  f244(self, j0);
+  f245(self, j0);
   B4:;
   j0 = p0;
   i0 = (u32)(j0);
@@ -106656,7 +106657,7 @@ static void f123(module *self, u64 p0, u64 p1, u64 p2) {
   j0 += j1;
   j1 = l10;
   j2 = 1ull;
-  f241(self, j0, j1, j2); m = self->memory; if (NEVER(self->is_broken)) return;
+  f242(self, j0, j1, j2); m = self->memory; if (NEVER(self->is_broken)) return;
   i0 = 1u;
   l15 = i0;
   j0 = l3;
@@ -106920,7 +106921,7 @@ static void f123(module *self, u64 p0, u64 p1, u64 p2) {
   j1 = l13;
   i64_store(j0, j1);
   j0 = l7;
-  f244(self, j0);
+  f245(self, j0);
   j0 = l4;
   i0 = (u32)(j0);
   j0 = i64_load(j0);
@@ -106975,7 +106976,7 @@ static void f123(module *self, u64 p0, u64 p1, u64 p2) {
   goto B2;
   B58:;
   j0 = l7;
-  f244(self, j0);
+  f245(self, j0);
   goto B0;
   B5:;
   j0 = p2;
@@ -109495,7 +109496,87 @@ static u32 f128(module *self, u64 p0, u32 p1, u32 p2) {
   return i0;
 }
 
-static u32 f129(module *self, u64 p0, u64 p1, u32 p2, u64 p3, u64 p4, u32 p5) {
+static u32 f129(module *self, u64 p0, u32 p1, u32 p2) {
+  u32 l5 = 0;
+  u64 l3 = 0, l4 = 0;
+  u8 *m = self->memory;
+  u32 i0, i1, i2, i3;
+  u64 j0, j1;
+  j0 = self->g0;
+  j1 = 16ull;
+  j0 -= j1;
+  l3 = j0;
+  self->g0 = j0;
+  i0 = 20u;
+  l5 = i0;
+  j0 = p0;
+  i0 = (u32)(j0);
+  i0 = i32_load8_u(j0);
+  i0 = !(i0);
+  if (i0) {goto B0;}
+  j0 = p0;
+  j1 = 4ull;
+  j0 += j1;
+  i0 = (u32)(j0);
+  i0 = i32_load(j0);
+  i0 = !(i0);
+  if (i0) {goto B1;}
+  j0 = p0;
+  f1(self, j0); m = self->memory; if (NEVER(self->is_broken)) return ZAK_BROKEN;
+  B1:;
+  j0 = p0;
+  i0 = (u32)(j0);
+  j1 = 0ull;
+  i64_store(j0, j1);
+  j0 = p0;
+  i0 = (u32)(j0);
+  j0 = i64_load(j0 + 8u);
+  l4 = j0;
+  j0 = p0;
+  i0 = (u32)(j0);
+  j1 = 0ull;
+  i64_store(j0 + 8, j1);
+  j0 = l3;
+  j1 = 8ull;
+  j0 += j1;
+  j1 = l4;
+  i2 = p1;
+  i3 = p2;
+  f51(self, j0, j1, i2, i3);
+  j0 = l3;
+  i0 = (u32)(j0);
+  i0 = i32_load8_u(j0 + 8u);
+  l5 = i0;
+  j0 = p0;
+  i0 = (u32)(j0);
+  i1 = 0u;
+  i32_store(j0 + 1, i1);
+  j0 = p0;
+  i0 = (u32)(j0);
+  i1 = 1u;
+  i32_store8(j0, i1);
+  j0 = p0;
+  i0 = (u32)(j0);
+  i1 = 0u;
+  i32_store(j0 + 4, i1);
+  j0 = p0;
+  i0 = (u32)(j0);
+  j1 = l4;
+  i64_store(j0 + 8, j1);
+  i0 = l5;
+  i1 = 0u;
+  i0 = i0 != i1;
+  l5 = i0;
+  B0:;
+  j0 = l3;
+  j1 = 16ull;
+  j0 += j1;
+  self->g0 = j0;
+  i0 = l5;
+  return i0;
+}
+
+static u32 f130(module *self, u64 p0, u64 p1, u32 p2, u64 p3, u64 p4, u32 p5) {
   u32 l6 = 0, l7 = 0, l8 = 0, l9 = 0, l10 = 0, l11 = 0, l12 = 0;
   u8 *m = self->memory;
   u32 i0, i1, i2, i3;
@@ -109839,7 +109920,7 @@ static u32 f129(module *self, u64 p0, u64 p1, u32 p2, u64 p3, u64 p4, u32 p5) {
   return i0;
 }
 
-static u32 f130(module *self, u64 p0, u32 p1, u32 p2) {
+static u32 f131(module *self, u64 p0, u32 p1, u32 p2) {
   u32 l5 = 0, l6 = 0, l7 = 0, l8 = 0;
   u64 l3 = 0, l4 = 0;
   u8 *m = self->memory;
@@ -110031,7 +110112,7 @@ static u32 f130(module *self, u64 p0, u32 p1, u32 p2) {
   return i0;
 }
 
-static void f131(module *self, u64 p0, u64 p1, u32 p2, u32 p3) {
+static void f132(module *self, u64 p0, u64 p1, u32 p2, u32 p3) {
   u32 l7 = 0;
   u64 l4 = 0, l5 = 0, l6 = 0;
   u8 *m = self->memory;
@@ -110065,7 +110146,7 @@ static void f131(module *self, u64 p0, u64 p1, u32 p2, u32 p3) {
   j0 = l4;
   j1 = 2176ull;
   j0 += j1;
-  f132(self, j0); m = self->memory; if (NEVER(self->is_broken)) return;
+  f133(self, j0); m = self->memory; if (NEVER(self->is_broken)) return;
   j0 = l4;
   i0 = (u32)(j0);
   j0 = i64_load(j0 + 2192u);
@@ -110104,7 +110185,7 @@ static void f131(module *self, u64 p0, u64 p1, u32 p2, u32 p3) {
   j3 += j4;
   i4 = p2;
   i5 = p3;
-  f133(self, j0, j1, j2, j3, i4, i5); m = self->memory; if (NEVER(self->is_broken)) return;
+  f134(self, j0, j1, j2, j3, i4, i5); m = self->memory; if (NEVER(self->is_broken)) return;
   j0 = l4;
   i0 = (u32)(j0);
   i0 = i32_load8_u(j0 + 2152u);
@@ -110124,12 +110205,12 @@ static void f131(module *self, u64 p0, u64 p1, u32 p2, u32 p3) {
   i2 = (u32)(j2);
   j2 = i64_load(j2 + 2216u);
   j3 = p1;
-  f134(self, j0, j1, j2, j3); m = self->memory; if (NEVER(self->is_broken)) return;
+  f135(self, j0, j1, j2, j3); m = self->memory; if (NEVER(self->is_broken)) return;
   j0 = l5;
   i0 = !(j0);
   if (i0) {goto B4;}
   j0 = l6;
-  f244(self, j0);
+  f245(self, j0);
   B4:;
   j0 = l4;
   i0 = (u32)(j0);
@@ -110215,7 +110296,7 @@ static void f131(module *self, u64 p0, u64 p1, u32 p2, u32 p3) {
   j0 = l4;
   i0 = (u32)(j0);
   j0 = i64_load(j0 + 2208u);
-  f244(self, j0);
+  f245(self, j0);
   goto B1;
   B2:;
   j0 = l6;
@@ -110260,7 +110341,7 @@ static void f131(module *self, u64 p0, u64 p1, u32 p2, u32 p3) {
   self->g0 = j0;
 }
 
-static void f132(module *self, u64 p0) {
+static void f133(module *self, u64 p0) {
   u32 l7 = 0;
   u64 l1 = 0, l2 = 0, l3 = 0, l4 = 0, l5 = 0, l6 = 0;
   u8 *m = self->memory;
@@ -110274,7 +110355,7 @@ static void f132(module *self, u64 p0) {
   j0 = l1;
   j1 = 5ull;
   j2 = 1ull;
-  f241(self, j0, j1, j2); m = self->memory; if (NEVER(self->is_broken)) return;
+  f242(self, j0, j1, j2); m = self->memory; if (NEVER(self->is_broken)) return;
   j0 = l1;
   i0 = (u32)(j0);
   j0 = i64_load(j0);
@@ -110312,7 +110393,7 @@ static void f132(module *self, u64 p0) {
   j1 = 16ull;
   j0 += j1;
   j1 = 5ull;
-  i0 = f135(self, j0, j1); m = self->memory; if (NEVER(self->is_broken)) return;
+  i0 = f136(self, j0, j1); m = self->memory; if (NEVER(self->is_broken)) return;
   l7 = i0;
   j0 = l1;
   i0 = (u32)(j0);
@@ -110412,7 +110493,7 @@ static void f132(module *self, u64 p0) {
   i32_store(j0, i1);
   B2:;
   j0 = l2;
-  f244(self, j0);
+  f245(self, j0);
   j0 = p0;
   j1 = 24ull;
   j0 += j1;
@@ -110443,10 +110524,10 @@ static void f132(module *self, u64 p0) {
   j0 = l1;
   i0 = (u32)(j0);
   j0 = i64_load(j0 + 16u);
-  f244(self, j0);
+  f245(self, j0);
   B5:;
   j0 = l2;
-  f244(self, j0);
+  f245(self, j0);
   j0 = p0;
   j1 = 16ull;
   j0 += j1;
@@ -110476,7 +110557,7 @@ static void f132(module *self, u64 p0) {
   self->g0 = j0;
 }
 
-static void f133(module *self, u64 p0, u64 p1, u64 p2, u64 p3, u32 p4, u32 p5) {
+static void f134(module *self, u64 p0, u64 p1, u64 p2, u64 p3, u32 p4, u32 p5) {
   u32 l7 = 0, l8 = 0, l9 = 0, l10 = 0, l11 = 0;
   u64 l6 = 0;
   u8 *m = self->memory;
@@ -110677,7 +110758,7 @@ static void f133(module *self, u64 p0, u64 p1, u64 p2, u64 p3, u32 p4, u32 p5) {
   if (i0) {goto B5;}
   j0 = l6;
   j1 = p1;
-  f136(self, j0, j1); m = self->memory; if (NEVER(self->is_broken)) return;
+  f137(self, j0, j1); m = self->memory; if (NEVER(self->is_broken)) return;
   j0 = l6;
   i0 = (u32)(j0);
   i0 = i32_load8_u(j0);
@@ -112098,7 +112179,7 @@ static void f133(module *self, u64 p0, u64 p1, u64 p2, u64 p3, u32 p4, u32 p5) {
   i3 = 0u;
   i4 = 0u;
   i5 = 0u;
-  f137(self, j0, j1, i2, i3, i4, i5); m = self->memory; if (NEVER(self->is_broken)) return;
+  f138(self, j0, j1, i2, i3, i4, i5); m = self->memory; if (NEVER(self->is_broken)) return;
   j0 = l6;
   i0 = (u32)(j0);
   i0 = i32_load8_u(j0);
@@ -112326,7 +112407,7 @@ static void f133(module *self, u64 p0, u64 p1, u64 p2, u64 p3, u32 p4, u32 p5) {
   self->g0 = j0;
 }
 
-static void f134(module *self, u64 p0, u64 p1, u64 p2, u64 p3) {
+static void f135(module *self, u64 p0, u64 p1, u64 p2, u64 p3) {
   u32 l27 = 0, l28 = 0, l29 = 0, l30 = 0, l31 = 0, l32 = 0, l33 = 0, l34 = 0, 
       l35 = 0;
   u64 l4 = 0, l5 = 0, l6 = 0, l7 = 0, l8 = 0, l9 = 0, l10 = 0, l11 = 0, 
@@ -112447,7 +112528,7 @@ static void f134(module *self, u64 p0, u64 p1, u64 p2, u64 p3) {
   j0 += j1;
   j1 = l8;
   j2 = 1ull;
-  f241(self, j0, j1, j2); m = self->memory; if (NEVER(self->is_broken)) return;
+  f242(self, j0, j1, j2); m = self->memory; if (NEVER(self->is_broken)) return;
   j0 = l4;
   i0 = (u32)(j0);
   j0 = i64_load(j0 + 144u);
@@ -112583,7 +112664,7 @@ static void f134(module *self, u64 p0, u64 p1, u64 p2, u64 p3) {
   j0 += j1;
   j1 = 24ull;
   j2 = 8ull;
-  f241(self, j0, j1, j2); m = self->memory; if (NEVER(self->is_broken)) return;
+  f242(self, j0, j1, j2); m = self->memory; if (NEVER(self->is_broken)) return;
   i0 = 1u;
   l27 = i0;
   j0 = l4;
@@ -112661,7 +112742,7 @@ static void f134(module *self, u64 p0, u64 p1, u64 p2, u64 p3) {
   j0 += j1;
   j1 = l13;
   j2 = 1ull;
-  f241(self, j0, j1, j2); m = self->memory; if (NEVER(self->is_broken)) return;
+  f242(self, j0, j1, j2); m = self->memory; if (NEVER(self->is_broken)) return;
   j0 = l4;
   i0 = (u32)(j0);
   j0 = i64_load(j0 + 112u);
@@ -112797,7 +112878,7 @@ static void f134(module *self, u64 p0, u64 p1, u64 p2, u64 p3) {
   j0 += j1;
   j1 = 24ull;
   j2 = 8ull;
-  f241(self, j0, j1, j2); m = self->memory; if (NEVER(self->is_broken)) return;
+  f242(self, j0, j1, j2); m = self->memory; if (NEVER(self->is_broken)) return;
   i0 = 1u;
   l28 = i0;
   j0 = l4;
@@ -112867,7 +112948,7 @@ static void f134(module *self, u64 p0, u64 p1, u64 p2, u64 p3) {
   j0 += j1;
   j1 = l13;
   j2 = 1ull;
-  f241(self, j0, j1, j2); m = self->memory; if (NEVER(self->is_broken)) return;
+  f242(self, j0, j1, j2); m = self->memory; if (NEVER(self->is_broken)) return;
   j0 = l4;
   i0 = (u32)(j0);
   j0 = i64_load(j0 + 80u);
@@ -113003,7 +113084,7 @@ static void f134(module *self, u64 p0, u64 p1, u64 p2, u64 p3) {
   j0 += j1;
   j1 = 24ull;
   j2 = 8ull;
-  f241(self, j0, j1, j2); m = self->memory; if (NEVER(self->is_broken)) return;
+  f242(self, j0, j1, j2); m = self->memory; if (NEVER(self->is_broken)) return;
   j0 = l4;
   i0 = (u32)(j0);
   j0 = i64_load(j0 + 64u);
@@ -113137,7 +113218,7 @@ static void f134(module *self, u64 p0, u64 p1, u64 p2, u64 p3) {
   j1 = 4616ull;
   j0 += j1;
   j1 = 1ull;
-  f138(self, j0, j1); if (NEVER(self->is_broken)) return;
+  f139(self, j0, j1); if (NEVER(self->is_broken)) return;
   j0 = l4;
   i0 = (u32)(j0);
   j1 = l4;
@@ -116682,7 +116763,7 @@ static void f134(module *self, u64 p0, u64 p1, u64 p2, u64 p3) {
     j3 |= j4;
     j4 = l13;
     j5 = l9;
-    f139(self, j0, j1, j2, j3, j4, j5); m = self->memory; if (NEVER(self->is_broken)) return;
+    f140(self, j0, j1, j2, j3, j4, j5); m = self->memory; if (NEVER(self->is_broken)) return;
     goto B103;
     B113:;
     i0 = l27;
@@ -116717,7 +116798,7 @@ static void f134(module *self, u64 p0, u64 p1, u64 p2, u64 p3) {
     j2 = l4;
     j3 = 4616ull;
     j2 += j3;
-    f140(self, j0, j1, j2); if (NEVER(self->is_broken)) return;
+    f141(self, j0, j1, j2); if (NEVER(self->is_broken)) return;
     goto B103;
     B111:;
     j0 = l4;
@@ -116754,7 +116835,7 @@ static void f134(module *self, u64 p0, u64 p1, u64 p2, u64 p3) {
     j3 = l4;
     j4 = 4680ull;
     j3 += j4;
-    f141(self, j0, j1, j2, j3); if (NEVER(self->is_broken)) return;
+    f142(self, j0, j1, j2, j3); if (NEVER(self->is_broken)) return;
     goto B103;
     B110:;
     j0 = l4;
@@ -117167,19 +117248,19 @@ static void f134(module *self, u64 p0, u64 p1, u64 p2, u64 p3) {
     j0 = l4;
     i0 = (u32)(j0);
     j0 = i64_load(j0 + 2376u);
-    f244(self, j0);
+    f245(self, j0);
     B146:;
     j0 = p3;
     i0 = !(j0);
     if (i0) {goto B147;}
     j0 = l7;
-    f244(self, j0);
+    f245(self, j0);
     B147:;
     j0 = p1;
     i0 = !(j0);
     if (i0) {goto B148;}
     j0 = p2;
-    f244(self, j0);
+    f245(self, j0);
     B148:;
     j0 = l4;
     i0 = (u32)(j0);
@@ -117206,7 +117287,7 @@ static void f134(module *self, u64 p0, u64 p1, u64 p2, u64 p3) {
     j0 = l4;
     i0 = (u32)(j0);
     j0 = i64_load(j0 + 4496u);
-    f142(self, j0);
+    f143(self, j0);
     B149:;
     i0 = l27;
     j0 = (u64)(i0);
@@ -117218,7 +117299,7 @@ static void f134(module *self, u64 p0, u64 p1, u64 p2, u64 p3) {
     i0 = i0 != i1;
     if (i0) {goto B150;}
     j0 = p2;
-    f142(self, j0);
+    f143(self, j0);
     B150:;
     j0 = p1;
     j1 = 255ull;
@@ -117231,7 +117312,7 @@ static void f134(module *self, u64 p0, u64 p1, u64 p2, u64 p3) {
     i0 = i0 != i1;
     if (i0) {goto B151;}
     j0 = p3;
-    f142(self, j0);
+    f143(self, j0);
     B151:;
     j0 = p0;
     i0 = (u32)(j0);
@@ -117562,7 +117643,7 @@ static void f134(module *self, u64 p0, u64 p1, u64 p2, u64 p3) {
     B165:;
     j0 = l7;
     j1 = l6;
-    f138(self, j0, j1); if (NEVER(self->is_broken)) return;
+    f139(self, j0, j1); if (NEVER(self->is_broken)) return;
     j0 = l4;
     i0 = (u32)(j0);
     j1 = l4;
@@ -117638,7 +117719,7 @@ static void f134(module *self, u64 p0, u64 p1, u64 p2, u64 p3) {
   goto B0;
   B7:;
   j0 = l9;
-  f244(self, j0);
+  f245(self, j0);
   goto B1;
   B6:;
   j0 = l4;
@@ -117674,7 +117755,7 @@ static void f134(module *self, u64 p0, u64 p1, u64 p2, u64 p3) {
   goto B0;
   B5:;
   j0 = l14;
-  f244(self, j0);
+  f245(self, j0);
   B4:;
   i0 = l28;
   i0 = !(i0);
@@ -117688,12 +117769,12 @@ static void f134(module *self, u64 p0, u64 p1, u64 p2, u64 p3) {
   j0 = i64_load(j0 + 16u);
   p1 = j0;
   j0 = l10;
-  f244(self, j0);
+  f245(self, j0);
   j0 = p1;
   i0 = !(j0);
   if (i0) {goto B166;}
   j0 = p3;
-  f244(self, j0);
+  f245(self, j0);
   B166:;
   i0 = l27;
   i0 = !(i0);
@@ -117707,16 +117788,16 @@ static void f134(module *self, u64 p0, u64 p1, u64 p2, u64 p3) {
   j0 = i64_load(j0 + 16u);
   p1 = j0;
   j0 = l5;
-  f244(self, j0);
+  f245(self, j0);
   j0 = p1;
   i0 = !(j0);
   if (i0) {goto B1;}
   j0 = p3;
-  f244(self, j0);
+  f245(self, j0);
   goto B1;
   B3:;
   j0 = l14;
-  f244(self, j0);
+  f245(self, j0);
   B2:;
   i0 = l27;
   i0 = !(i0);
@@ -117730,12 +117811,12 @@ static void f134(module *self, u64 p0, u64 p1, u64 p2, u64 p3) {
   j0 = i64_load(j0 + 16u);
   p1 = j0;
   j0 = l5;
-  f244(self, j0);
+  f245(self, j0);
   j0 = p1;
   i0 = !(j0);
   if (i0) {goto B1;}
   j0 = p3;
-  f244(self, j0);
+  f245(self, j0);
   B1:;
   j0 = p0;
   i0 = (u32)(j0);
@@ -117762,7 +117843,7 @@ static void f134(module *self, u64 p0, u64 p1, u64 p2, u64 p3) {
   self->g0 = j0;
 }
 
-static u32 f135(module *self, u64 p0, u64 p1) {
+static u32 f136(module *self, u64 p0, u64 p1) {
   u32 l6 = 0;
   u64 l2 = 0, l3 = 0, l4 = 0, l5 = 0;
   u8 *m = self->memory;
@@ -117831,7 +117912,7 @@ static u32 f135(module *self, u64 p0, u64 p1) {
   j2 = l3;
   j3 = p1;
   j4 = 1ull;
-  f243(self, j0, j1, j2, j3, j4); m = self->memory; if (NEVER(self->is_broken)) return ZAK_BROKEN;
+  f244(self, j0, j1, j2, j3, j4); m = self->memory; if (NEVER(self->is_broken)) return ZAK_BROKEN;
   j0 = l2;
   i0 = (u32)(j0);
   j0 = i64_load(j0 + 16u);
@@ -117849,7 +117930,7 @@ static u32 f135(module *self, u64 p0, u64 p1) {
   j0 = l2;
   j1 = l5;
   j2 = 1ull;
-  f241(self, j0, j1, j2); m = self->memory; if (NEVER(self->is_broken)) return ZAK_BROKEN;
+  f242(self, j0, j1, j2); m = self->memory; if (NEVER(self->is_broken)) return ZAK_BROKEN;
   j0 = l2;
   i0 = (u32)(j0);
   j0 = i64_load(j0);
@@ -117884,7 +117965,7 @@ static u32 f135(module *self, u64 p0, u64 p1) {
   return i0;
 }
 
-static void f136(module *self, u64 p0, u64 p1) {
+static void f137(module *self, u64 p0, u64 p1) {
   u32 l5 = 0;
   u64 l2 = 0, l3 = 0, l4 = 0;
   u8 *m = self->memory;
@@ -118481,7 +118562,7 @@ static void f136(module *self, u64 p0, u64 p1) {
   self->g0 = j0;
 }
 
-static void f137(module *self, u64 p0, u64 p1, u32 p2, u32 p3, u32 p4, u32 p5) {
+static void f138(module *self, u64 p0, u64 p1, u32 p2, u32 p3, u32 p4, u32 p5) {
   u64 l6 = 0, l7 = 0;
   u8 *m = self->memory;
   u32 i0, i1;
@@ -118594,7 +118675,7 @@ static void f137(module *self, u64 p0, u64 p1, u32 p2, u32 p3, u32 p4, u32 p5) {
   self->g0 = j0;
 }
 
-static void f138(module *self, u64 p0, u64 p1) {
+static void f139(module *self, u64 p0, u64 p1) {
   u32 l6 = 0, l7 = 0;
   u64 l2 = 0, l3 = 0, l4 = 0, l5 = 0;
   u8 *m = self->memory;
@@ -118874,7 +118955,7 @@ static void f138(module *self, u64 p0, u64 p1) {
   B8:;
 }
 
-static void f139(module *self, u64 p0, u64 p1, u64 p2, u64 p3, u64 p4, u64 p5) {
+static void f140(module *self, u64 p0, u64 p1, u64 p2, u64 p3, u64 p4, u64 p5) {
   u32 l14 = 0, l15 = 0, l16 = 0;
   u64 l6 = 0, l7 = 0, l8 = 0, l9 = 0, l10 = 0, l11 = 0, l12 = 0, l13 = 0;
   u8 *m = self->memory;
@@ -118946,7 +119027,7 @@ static void f139(module *self, u64 p0, u64 p1, u64 p2, u64 p3, u64 p4, u64 p5) {
   j2 = l6;
   i2 = (u32)(j2);
   j2 = i64_load(j2 + 16u);
-  f143(self, j0, j1, j2); if (NEVER(self->is_broken)) return;
+  f144(self, j0, j1, j2); if (NEVER(self->is_broken)) return;
   i0 = 0u;
   l16 = i0;
   i0 = l15;
@@ -118968,12 +119049,12 @@ static void f139(module *self, u64 p0, u64 p1, u64 p2, u64 p3, u64 p4, u64 p5) {
   j0 = i64_load(j0 + 16u);
   p5 = j0;
   j0 = p2;
-  f244(self, j0);
+  f245(self, j0);
   j0 = p5;
   i0 = !(j0);
   if (i0) {goto B0;}
   j0 = p4;
-  f244(self, j0);
+  f245(self, j0);
   goto B0;
   B1:;
   j0 = l6;
@@ -119378,7 +119459,7 @@ static void f139(module *self, u64 p0, u64 p1, u64 p2, u64 p3, u64 p4, u64 p5) {
   self->g0 = j0;
 }
 
-static void f140(module *self, u64 p0, u64 p1, u64 p2) {
+static void f141(module *self, u64 p0, u64 p1, u64 p2) {
   u32 l5 = 0, l6 = 0;
   u64 l3 = 0, l4 = 0;
   u8 *m = self->memory;
@@ -119486,7 +119567,7 @@ static void f140(module *self, u64 p0, u64 p1, u64 p2) {
   j1 = 128ull;
   j0 += j1;
   j1 = p1;
-  f138(self, j0, j1); if (NEVER(self->is_broken)) return;
+  f139(self, j0, j1); if (NEVER(self->is_broken)) return;
   j0 = l3;
   j1 = 40ull;
   j0 += j1;
@@ -119575,7 +119656,7 @@ static void f140(module *self, u64 p0, u64 p1, u64 p2) {
   j1 = 128ull;
   j0 += j1;
   j1 = p1;
-  f138(self, j0, j1); if (NEVER(self->is_broken)) return;
+  f139(self, j0, j1); if (NEVER(self->is_broken)) return;
   B0:;
   j0 = p0;
   i0 = (u32)(j0);
@@ -119599,7 +119680,7 @@ static void f140(module *self, u64 p0, u64 p1, u64 p2) {
   self->g0 = j0;
 }
 
-static void f141(module *self, u64 p0, u64 p1, u64 p2, u64 p3) {
+static void f142(module *self, u64 p0, u64 p1, u64 p2, u64 p3) {
   u32 l8 = 0, l9 = 0, l10 = 0, l11 = 0, l12 = 0;
   u64 l4 = 0, l5 = 0, l6 = 0, l7 = 0;
   u8 *m = self->memory;
@@ -119668,7 +119749,7 @@ static void f141(module *self, u64 p0, u64 p1, u64 p2, u64 p3) {
   j1 = 24ull;
   j0 += j1;
   j1 = p1;
-  f138(self, j0, j1); if (NEVER(self->is_broken)) return;
+  f139(self, j0, j1); if (NEVER(self->is_broken)) return;
   j0 = p3;
   i0 = (u32)(j0);
   switch (i0) {
@@ -119686,7 +119767,7 @@ static void f141(module *self, u64 p0, u64 p1, u64 p2, u64 p3) {
   j1 = 24ull;
   j0 += j1;
   j1 = p2;
-  f144(self, j0, j1);
+  f145(self, j0, j1);
   goto B0;
   B4:;
   j0 = p2;
@@ -119883,7 +119964,7 @@ static void f141(module *self, u64 p0, u64 p1, u64 p2, u64 p3) {
   j2 = 10ull;
   j1 += j2;
   i2 = l8;
-  f145(self, j0, j1, i2); if (NEVER(self->is_broken)) return;
+  f146(self, j0, j1, i2); if (NEVER(self->is_broken)) return;
   goto B0;
   B3:;
   j0 = l4;
@@ -119893,7 +119974,7 @@ static void f141(module *self, u64 p0, u64 p1, u64 p2, u64 p3) {
   i2 = l10;
   i3 = l9;
   i4 = l8;
-  f146(self, j0, j1, i2, i3, i4);
+  f147(self, j0, j1, i2, i3, i4);
   goto B0;
   B2:;
   j0 = l4;
@@ -119902,7 +119983,7 @@ static void f141(module *self, u64 p0, u64 p1, u64 p2, u64 p3) {
   j1 = p2;
   j2 = 2072ull;
   j1 += j2;
-  f147(self, j0, j1);
+  f148(self, j0, j1);
   goto B0;
   B1:;
   j0 = p2;
@@ -119942,7 +120023,7 @@ static void f141(module *self, u64 p0, u64 p1, u64 p2, u64 p3) {
     j1 = p2;
     j2 = p3;
     i3 = l8;
-    f148(self, j0, j1, j2, i3);
+    f149(self, j0, j1, j2, i3);
     i0 = l8;
     i1 = 1u;
     i0 += i1;
@@ -119977,7 +120058,7 @@ static void f141(module *self, u64 p0, u64 p1, u64 p2, u64 p3) {
   self->g0 = j0;
 }
 
-static void f142(module *self, u64 p0) {
+static void f143(module *self, u64 p0) {
   u64 l1 = 0, l2 = 0;
   u8 *m = self->memory;
   u32 i0;
@@ -119991,16 +120072,16 @@ static void f142(module *self, u64 p0) {
   j0 = i64_load(j0 + 16u);
   l2 = j0;
   j0 = p0;
-  f244(self, j0);
+  f245(self, j0);
   j0 = l2;
   i0 = !(j0);
   if (i0) {goto B0;}
   j0 = l1;
-  f244(self, j0);
+  f245(self, j0);
   B0:;
 }
 
-static void f143(module *self, u64 p0, u64 p1, u64 p2) {
+static void f144(module *self, u64 p0, u64 p1, u64 p2) {
   u32 l5 = 0, l6 = 0, l7 = 0, l8 = 0;
   u64 l3 = 0, l4 = 0;
   u8 *m = self->memory;
@@ -120045,7 +120126,7 @@ static void f143(module *self, u64 p0, u64 p1, u64 p2) {
   i64_store(j0, j1);
   j0 = l3;
   j1 = p1;
-  f138(self, j0, j1); if (NEVER(self->is_broken)) return;
+  f139(self, j0, j1); if (NEVER(self->is_broken)) return;
   j0 = l3;
   i0 = (u32)(j0);
   j0 = i64_load(j0 + 56u);
@@ -120607,7 +120688,7 @@ static void f143(module *self, u64 p0, u64 p1, u64 p2) {
   self->g0 = j0;
 }
 
-static void f144(module *self, u64 p0, u64 p1) {
+static void f145(module *self, u64 p0, u64 p1) {
   u32 l8 = 0, l9 = 0, l10 = 0, l11 = 0;
   u64 l2 = 0, l3 = 0, l4 = 0, l5 = 0, l6 = 0, l7 = 0;
   u8 *m = self->memory;
@@ -120712,7 +120793,7 @@ static void f144(module *self, u64 p0, u64 p1) {
   j5 = 33ull;
   j4 += j5;
   j5 = 5ull;
-  f149(self, j0, j1, j2, i3, j4, j5);
+  f150(self, j0, j1, j2, i3, j4, j5);
   j0 = l2;
   j1 = 8ull;
   j0 += j1;
@@ -120727,7 +120808,7 @@ static void f144(module *self, u64 p0, u64 p1) {
   j5 = 105ull;
   j4 += j5;
   j5 = 25ull;
-  f149(self, j0, j1, j2, i3, j4, j5);
+  f150(self, j0, j1, j2, i3, j4, j5);
   j0 = l2;
   j1 = 8ull;
   j0 += j1;
@@ -120742,7 +120823,7 @@ static void f144(module *self, u64 p0, u64 p1) {
   j5 = 47ull;
   j4 += j5;
   j5 = 9ull;
-  f149(self, j0, j1, j2, i3, j4, j5);
+  f150(self, j0, j1, j2, i3, j4, j5);
   j0 = l2;
   i0 = (u32)(j0);
   j0 = i64_load(j0 + 792u);
@@ -121541,7 +121622,7 @@ static void f144(module *self, u64 p0, u64 p1) {
   self->g0 = j0;
 }
 
-static void f145(module *self, u64 p0, u64 p1, u32 p2) {
+static void f146(module *self, u64 p0, u64 p1, u32 p2) {
   u32 l13 = 0;
   u64 l3 = 0, l4 = 0, l5 = 0, l6 = 0, l7 = 0, l8 = 0, l9 = 0, l10 = 0, 
       l11 = 0, l12 = 0;
@@ -122605,7 +122686,7 @@ static void f145(module *self, u64 p0, u64 p1, u32 p2) {
   j3 += j4;
   i3 = (u32)(j3);
   i3 = i32_load16_u(j3);
-  f150(self, j0, j1, j2, i3);
+  f151(self, j0, j1, j2, i3);
   j0 = p1;
   j1 = 10ull;
   j0 += j1;
@@ -123685,7 +123766,7 @@ static void f145(module *self, u64 p0, u64 p1, u32 p2) {
   self->g0 = j0;
 }
 
-static void f146(module *self, u64 p0, u64 p1, u32 p2, u32 p3, u32 p4) {
+static void f147(module *self, u64 p0, u64 p1, u32 p2, u32 p3, u32 p4) {
   u32 l11 = 0, l12 = 0;
   u64 l5 = 0, l6 = 0, l7 = 0, l8 = 0, l9 = 0, l10 = 0;
   u8 *m = self->memory;
@@ -123972,7 +124053,7 @@ static void f146(module *self, u64 p0, u64 p1, u32 p2, u32 p3, u32 p4) {
   self->g0 = j0;
 }
 
-static void f147(module *self, u64 p0, u64 p1) {
+static void f148(module *self, u64 p0, u64 p1) {
   u32 l7 = 0, l8 = 0, l9 = 0;
   u64 l2 = 0, l3 = 0, l4 = 0, l5 = 0, l6 = 0;
   u8 *m = self->memory;
@@ -124089,7 +124170,7 @@ static void f147(module *self, u64 p0, u64 p1) {
   j3 += j4;
   i3 = (u32)(j3);
   i3 = i32_load16_u(j3);
-  f150(self, j0, j1, j2, i3);
+  f151(self, j0, j1, j2, i3);
   j0 = l2;
   j1 = 8ull;
   j0 += j1;
@@ -124100,7 +124181,7 @@ static void f147(module *self, u64 p0, u64 p1) {
   j3 += j4;
   i3 = (u32)(j3);
   i3 = i32_load16_u(j3);
-  f150(self, j0, j1, j2, i3);
+  f151(self, j0, j1, j2, i3);
   j0 = l2;
   j1 = 8ull;
   j0 += j1;
@@ -124111,7 +124192,7 @@ static void f147(module *self, u64 p0, u64 p1) {
   j3 += j4;
   i3 = (u32)(j3);
   i3 = i32_load16_u(j3);
-  f150(self, j0, j1, j2, i3);
+  f151(self, j0, j1, j2, i3);
   j0 = l2;
   i0 = (u32)(j0);
   j0 = i64_load(j0 + 792u);
@@ -124310,7 +124391,7 @@ static void f147(module *self, u64 p0, u64 p1) {
   j3 += j4;
   i3 = (u32)(j3);
   i3 = i32_load16_u(j3);
-  f150(self, j0, j1, j2, i3);
+  f151(self, j0, j1, j2, i3);
   j0 = l2;
   i0 = (u32)(j0);
   j0 = i64_load(j0 + 792u);
@@ -124456,7 +124537,7 @@ static void f147(module *self, u64 p0, u64 p1) {
   j3 += j4;
   i3 = (u32)(j3);
   i3 = i32_load16_u(j3);
-  f150(self, j0, j1, j2, i3);
+  f151(self, j0, j1, j2, i3);
   j0 = l2;
   i0 = (u32)(j0);
   j0 = i64_load(j0 + 792u);
@@ -124602,7 +124683,7 @@ static void f147(module *self, u64 p0, u64 p1) {
   j3 += j4;
   i3 = (u32)(j3);
   i3 = i32_load16_u(j3);
-  f150(self, j0, j1, j2, i3);
+  f151(self, j0, j1, j2, i3);
   j0 = l2;
   i0 = (u32)(j0);
   j0 = i64_load(j0 + 792u);
@@ -124640,7 +124721,7 @@ static void f147(module *self, u64 p0, u64 p1) {
   self->g0 = j0;
 }
 
-static void f148(module *self, u64 p0, u64 p1, u64 p2, u32 p3) {
+static void f149(module *self, u64 p0, u64 p1, u64 p2, u32 p3) {
   u32 l9 = 0, l10 = 0;
   u64 l4 = 0, l5 = 0, l6 = 0, l7 = 0, l8 = 0;
   u8 *m = self->memory;
@@ -124924,7 +125005,7 @@ static void f148(module *self, u64 p0, u64 p1, u64 p2, u32 p3) {
   self->g0 = j0;
 }
 
-static void f149(module *self, u64 p0, u64 p1, u64 p2, u32 p3, u64 p4, u64 p5) {
+static void f150(module *self, u64 p0, u64 p1, u64 p2, u32 p3, u64 p4, u64 p5) {
   u32 l8 = 0;
   u64 l6 = 0, l7 = 0;
   u8 *m = self->memory;
@@ -125212,7 +125293,7 @@ static void f149(module *self, u64 p0, u64 p1, u64 p2, u32 p3, u64 p4, u64 p5) {
   B3:;
 }
 
-static void f150(module *self, u64 p0, u64 p1, u64 p2, u32 p3) {
+static void f151(module *self, u64 p0, u64 p1, u64 p2, u32 p3) {
   u32 l7 = 0, l8 = 0;
   u64 l4 = 0, l5 = 0, l6 = 0;
   u8 *m = self->memory;
@@ -125434,7 +125515,7 @@ static void f150(module *self, u64 p0, u64 p1, u64 p2, u32 p3) {
   B4:;
 }
 
-static void f151(module *self, u64 p0, u64 p1, u64 p2, u64 p3) {
+static void f152(module *self, u64 p0, u64 p1, u64 p2, u64 p3) {
   u32 l46 = 0, l47 = 0, l48 = 0, l49 = 0, l50 = 0, l51 = 0, l52 = 0, l53 = 0, 
       l54 = 0, l55 = 0, l56 = 0, l57 = 0;
   u64 l4 = 0, l5 = 0, l6 = 0, l7 = 0, l8 = 0, l9 = 0, l10 = 0, l11 = 0, 
@@ -125928,19 +126009,19 @@ static void f151(module *self, u64 p0, u64 p1, u64 p2, u64 p3) {
   i0 = !(j0);
   if (i0) {goto B4;}
   j0 = l44;
-  f244(self, j0);
+  f245(self, j0);
   B4:;
   j0 = l39;
   i0 = !(j0);
   if (i0) {goto B5;}
   j0 = l41;
-  f244(self, j0);
+  f245(self, j0);
   B5:;
   j0 = l35;
   i0 = !(j0);
   if (i0) {goto B6;}
   j0 = l37;
-  f244(self, j0);
+  f245(self, j0);
   B6:;
   i0 = l52;
   i1 = 255u;
@@ -125957,12 +126038,12 @@ static void f151(module *self, u64 p0, u64 p1, u64 p2, u64 p3) {
   j0 = i64_load(j0 + 16u);
   p2 = j0;
   j0 = l33;
-  f244(self, j0);
+  f245(self, j0);
   j0 = p2;
   i0 = !(j0);
   if (i0) {goto B7;}
   j0 = p3;
-  f244(self, j0);
+  f245(self, j0);
   B7:;
   i0 = l51;
   i1 = 255u;
@@ -125979,12 +126060,12 @@ static void f151(module *self, u64 p0, u64 p1, u64 p2, u64 p3) {
   j0 = i64_load(j0 + 16u);
   p2 = j0;
   j0 = l32;
-  f244(self, j0);
+  f245(self, j0);
   j0 = p2;
   i0 = !(j0);
   if (i0) {goto B8;}
   j0 = p3;
-  f244(self, j0);
+  f245(self, j0);
   B8:;
   i0 = l50;
   i1 = 255u;
@@ -126001,12 +126082,12 @@ static void f151(module *self, u64 p0, u64 p1, u64 p2, u64 p3) {
   j0 = i64_load(j0 + 16u);
   p2 = j0;
   j0 = l31;
-  f244(self, j0);
+  f245(self, j0);
   j0 = p2;
   i0 = !(j0);
   if (i0) {goto B9;}
   j0 = p3;
-  f244(self, j0);
+  f245(self, j0);
   B9:;
   j0 = p0;
   i0 = (u32)(j0);
@@ -126398,19 +126479,19 @@ static void f151(module *self, u64 p0, u64 p1, u64 p2, u64 p3) {
   i0 = !(j0);
   if (i0) {goto B10;}
   j0 = l30;
-  f244(self, j0);
+  f245(self, j0);
   B10:;
   j0 = l25;
   i0 = !(j0);
   if (i0) {goto B11;}
   j0 = l27;
-  f244(self, j0);
+  f245(self, j0);
   B11:;
   j0 = l21;
   i0 = !(j0);
   if (i0) {goto B12;}
   j0 = l23;
-  f244(self, j0);
+  f245(self, j0);
   B12:;
   i0 = l48;
   i1 = 255u;
@@ -126427,12 +126508,12 @@ static void f151(module *self, u64 p0, u64 p1, u64 p2, u64 p3) {
   j0 = i64_load(j0 + 16u);
   p2 = j0;
   j0 = l19;
-  f244(self, j0);
+  f245(self, j0);
   j0 = p2;
   i0 = !(j0);
   if (i0) {goto B13;}
   j0 = p3;
-  f244(self, j0);
+  f245(self, j0);
   B13:;
   i0 = l47;
   i1 = 255u;
@@ -126449,12 +126530,12 @@ static void f151(module *self, u64 p0, u64 p1, u64 p2, u64 p3) {
   j0 = i64_load(j0 + 16u);
   p2 = j0;
   j0 = l18;
-  f244(self, j0);
+  f245(self, j0);
   j0 = p2;
   i0 = !(j0);
   if (i0) {goto B14;}
   j0 = p3;
-  f244(self, j0);
+  f245(self, j0);
   B14:;
   i0 = l46;
   i1 = 255u;
@@ -126471,12 +126552,12 @@ static void f151(module *self, u64 p0, u64 p1, u64 p2, u64 p3) {
   j0 = i64_load(j0 + 16u);
   p2 = j0;
   j0 = l17;
-  f244(self, j0);
+  f245(self, j0);
   j0 = p2;
   i0 = !(j0);
   if (i0) {goto B15;}
   j0 = p3;
-  f244(self, j0);
+  f245(self, j0);
   B15:;
   j0 = p0;
   i0 = (u32)(j0);
@@ -126752,7 +126833,7 @@ static void f151(module *self, u64 p0, u64 p1, u64 p2, u64 p3) {
   self->g0 = j0;
 }
 
-static void f152(module *self, u64 p0, u64 p1, u64 p2, u32 p3, u32 p4) {
+static void f153(module *self, u64 p0, u64 p1, u64 p2, u32 p3, u32 p4) {
   u32 l13 = 0, l14 = 0, l15 = 0, l16 = 0, l17 = 0, l18 = 0, l19 = 0, l20 = 0, 
       l21 = 0, l22 = 0, l23 = 0, l24 = 0;
   u64 l5 = 0, l6 = 0, l7 = 0, l8 = 0, l9 = 0, l10 = 0, l11 = 0, l12 = 0;
@@ -126831,7 +126912,7 @@ static void f152(module *self, u64 p0, u64 p1, u64 p2, u32 p3, u32 p4) {
   j0 = l5;
   j1 = 4448ull;
   j0 += j1;
-  f132(self, j0); m = self->memory; if (NEVER(self->is_broken)) return;
+  f133(self, j0); m = self->memory; if (NEVER(self->is_broken)) return;
   j0 = l5;
   i0 = (u32)(j0);
   j0 = i64_load(j0 + 4464u);
@@ -126876,7 +126957,7 @@ static void f152(module *self, u64 p0, u64 p1, u64 p2, u32 p3, u32 p4) {
   j5 += j6;
   i5 = (u32)(j5);
   i5 = i32_load(j5);
-  f133(self, j0, j1, j2, j3, i4, i5); m = self->memory; if (NEVER(self->is_broken)) return;
+  f134(self, j0, j1, j2, j3, i4, i5); m = self->memory; if (NEVER(self->is_broken)) return;
   j0 = l5;
   i0 = (u32)(j0);
   i0 = i32_load8_u(j0 + 4424u);
@@ -127074,7 +127155,7 @@ static void f152(module *self, u64 p0, u64 p1, u64 p2, u32 p3, u32 p4) {
   j0 = l5;
   i0 = (u32)(j0);
   j0 = i64_load(j0 + 4480u);
-  f244(self, j0);
+  f245(self, j0);
   goto B1;
   B18:;
   j0 = l5;
@@ -127259,7 +127340,7 @@ static void f152(module *self, u64 p0, u64 p1, u64 p2, u32 p3, u32 p4) {
   i2 = p4;
   i3 = 6u;
   i4 = 255u;
-  f153(self, j0, j1, i2, i3, i4); m = self->memory; if (NEVER(self->is_broken)) return;
+  f154(self, j0, j1, i2, i3, i4); m = self->memory; if (NEVER(self->is_broken)) return;
   j0 = l5;
   i0 = (u32)(j0);
   i0 = i32_load8_u(j0 + 4552u);
@@ -127602,7 +127683,7 @@ static void f152(module *self, u64 p0, u64 p1, u64 p2, u32 p3, u32 p4) {
   i4 = 1u;
   i3 += i4;
   p3 = i3;
-  f154(self, j0, j1, i2, i3); m = self->memory; if (NEVER(self->is_broken)) return;
+  f155(self, j0, j1, i2, i3); m = self->memory; if (NEVER(self->is_broken)) return;
   j0 = l5;
   i0 = (u32)(j0);
   i0 = i32_load8_u(j0 + 4528u);
@@ -127628,7 +127709,7 @@ static void f152(module *self, u64 p0, u64 p1, u64 p2, u32 p3, u32 p4) {
   i2 = p4;
   i3 = 19u;
   i4 = l16;
-  f153(self, j0, j1, i2, i3, i4); m = self->memory; if (NEVER(self->is_broken)) return;
+  f154(self, j0, j1, i2, i3, i4); m = self->memory; if (NEVER(self->is_broken)) return;
   j0 = l5;
   i0 = (u32)(j0);
   i0 = i32_load8_u(j0 + 4504u);
@@ -127641,7 +127722,7 @@ static void f152(module *self, u64 p0, u64 p1, u64 p2, u32 p3, u32 p4) {
   j1 += j2;
   i2 = l20;
   i3 = 1u;
-  f154(self, j0, j1, i2, i3); m = self->memory; if (NEVER(self->is_broken)) return;
+  f155(self, j0, j1, i2, i3); m = self->memory; if (NEVER(self->is_broken)) return;
   j0 = l5;
   i0 = (u32)(j0);
   i0 = i32_load8_u(j0 + 4504u);
@@ -127667,7 +127748,7 @@ static void f152(module *self, u64 p0, u64 p1, u64 p2, u32 p3, u32 p4) {
   i2 = p4;
   i3 = 19u;
   i4 = 0u;
-  f153(self, j0, j1, i2, i3, i4); m = self->memory; if (NEVER(self->is_broken)) return;
+  f154(self, j0, j1, i2, i3, i4); m = self->memory; if (NEVER(self->is_broken)) return;
   j0 = l5;
   i0 = (u32)(j0);
   i0 = i32_load8_u(j0 + 4528u);
@@ -127700,7 +127781,7 @@ static void f152(module *self, u64 p0, u64 p1, u64 p2, u32 p3, u32 p4) {
   i6 = l18;
   i5 = i5 > i6;
   i3 = i5 ? i3 : i4;
-  f154(self, j0, j1, i2, i3); m = self->memory; if (NEVER(self->is_broken)) return;
+  f155(self, j0, j1, i2, i3); m = self->memory; if (NEVER(self->is_broken)) return;
   j0 = l5;
   i0 = (u32)(j0);
   i0 = i32_load8_u(j0 + 4528u);
@@ -127714,7 +127795,7 @@ static void f152(module *self, u64 p0, u64 p1, u64 p2, u32 p3, u32 p4) {
   i2 = p4;
   i3 = 9u;
   i4 = 31u;
-  f153(self, j0, j1, i2, i3, i4); m = self->memory; if (NEVER(self->is_broken)) return;
+  f154(self, j0, j1, i2, i3, i4); m = self->memory; if (NEVER(self->is_broken)) return;
   j0 = l5;
   i0 = (u32)(j0);
   i0 = i32_load8_u(j0 + 4528u);
@@ -127727,7 +127808,7 @@ static void f152(module *self, u64 p0, u64 p1, u64 p2, u32 p3, u32 p4) {
   j1 += j2;
   i2 = l20;
   i3 = l13;
-  f154(self, j0, j1, i2, i3); m = self->memory; if (NEVER(self->is_broken)) return;
+  f155(self, j0, j1, i2, i3); m = self->memory; if (NEVER(self->is_broken)) return;
   j0 = l5;
   i0 = (u32)(j0);
   i0 = i32_load8_u(j0 + 4552u);
@@ -128036,7 +128117,7 @@ static void f152(module *self, u64 p0, u64 p1, u64 p2, u32 p3, u32 p4) {
   i4 -= i5;
   i5 = 31u;
   i4 &= i5;
-  f153(self, j0, j1, i2, i3, i4); m = self->memory; if (NEVER(self->is_broken)) return;
+  f154(self, j0, j1, i2, i3, i4); m = self->memory; if (NEVER(self->is_broken)) return;
   j0 = l5;
   i0 = (u32)(j0);
   i0 = i32_load8_u(j0 + 4528u);
@@ -128049,7 +128130,7 @@ static void f152(module *self, u64 p0, u64 p1, u64 p2, u32 p3, u32 p4) {
   j1 += j2;
   i2 = p4;
   i3 = l16;
-  f155(self, j0, j1, i2, i3); m = self->memory; if (NEVER(self->is_broken)) return;
+  f156(self, j0, j1, i2, i3); m = self->memory; if (NEVER(self->is_broken)) return;
   j0 = l5;
   i0 = (u32)(j0);
   i0 = i32_load8_u(j0 + 4528u);
@@ -128062,7 +128143,7 @@ static void f152(module *self, u64 p0, u64 p1, u64 p2, u32 p3, u32 p4) {
   j1 += j2;
   i2 = l20;
   i3 = l18;
-  f154(self, j0, j1, i2, i3); m = self->memory; if (NEVER(self->is_broken)) return;
+  f155(self, j0, j1, i2, i3); m = self->memory; if (NEVER(self->is_broken)) return;
   j0 = l5;
   i0 = (u32)(j0);
   i0 = i32_load8_u(j0 + 4552u);
@@ -128400,7 +128481,7 @@ static void f152(module *self, u64 p0, u64 p1, u64 p2, u32 p3, u32 p4) {
   j1 = l5;
   j2 = 4480ull;
   j1 += j2;
-  f136(self, j0, j1); m = self->memory; if (NEVER(self->is_broken)) return;
+  f137(self, j0, j1); m = self->memory; if (NEVER(self->is_broken)) return;
   j0 = l5;
   i0 = (u32)(j0);
   i0 = i32_load8_u(j0 + 4528u);
@@ -128774,7 +128855,7 @@ static void f152(module *self, u64 p0, u64 p1, u64 p2, u32 p3, u32 p4) {
   j1 = l5;
   j2 = 4480ull;
   j1 += j2;
-  f136(self, j0, j1); m = self->memory; if (NEVER(self->is_broken)) return;
+  f137(self, j0, j1); m = self->memory; if (NEVER(self->is_broken)) return;
   j0 = l5;
   i0 = (u32)(j0);
   i0 = i32_load8_u(j0 + 4528u);
@@ -129259,7 +129340,7 @@ static void f152(module *self, u64 p0, u64 p1, u64 p2, u32 p3, u32 p4) {
   j1 += j2;
   j2 = p1;
   i3 = p3;
-  f156(self, j0, j1, j2, i3); m = self->memory; if (NEVER(self->is_broken)) return;
+  f157(self, j0, j1, j2, i3); m = self->memory; if (NEVER(self->is_broken)) return;
   j0 = l5;
   i0 = (u32)(j0);
   j1 = l5;
@@ -131339,7 +131420,7 @@ static void f152(module *self, u64 p0, u64 p1, u64 p2, u32 p3, u32 p4) {
   j1 += j2;
   i2 = 969u;
   i3 = l20;
-  f157(self, j0, j1, i2, i3); m = self->memory; if (NEVER(self->is_broken)) return;
+  f158(self, j0, j1, i2, i3); m = self->memory; if (NEVER(self->is_broken)) return;
   j0 = l5;
   i0 = (u32)(j0);
   i0 = i32_load8_u(j0 + 4552u);
@@ -131356,7 +131437,7 @@ static void f152(module *self, u64 p0, u64 p1, u64 p2, u32 p3, u32 p4) {
   j3 += j4;
   i3 = (u32)(j3);
   i3 = i32_load8_u(j3);
-  f157(self, j0, j1, i2, i3); m = self->memory; if (NEVER(self->is_broken)) return;
+  f158(self, j0, j1, i2, i3); m = self->memory; if (NEVER(self->is_broken)) return;
   j0 = l5;
   i0 = (u32)(j0);
   i0 = i32_load8_u(j0 + 4552u);
@@ -131469,7 +131550,7 @@ static void f152(module *self, u64 p0, u64 p1, u64 p2, u32 p3, u32 p4) {
   j3 = p1;
   j4 = 105ull;
   j3 += j4;
-  f158(self, j0, j1, i2, j3); m = self->memory; if (NEVER(self->is_broken)) return;
+  f159(self, j0, j1, i2, j3); m = self->memory; if (NEVER(self->is_broken)) return;
   j0 = l5;
   i0 = (u32)(j0);
   i0 = i32_load8_u(j0 + 4504u);
@@ -131484,7 +131565,7 @@ static void f152(module *self, u64 p0, u64 p1, u64 p2, u32 p3, u32 p4) {
   j3 = p1;
   i4 = l13;
   i5 = p4;
-  f159(self, j0, j1, i2, j3, i4, i5); m = self->memory; if (NEVER(self->is_broken)) return;
+  f160(self, j0, j1, i2, j3, i4, i5); m = self->memory; if (NEVER(self->is_broken)) return;
   j0 = l5;
   i0 = (u32)(j0);
   i0 = i32_load8_u(j0 + 4504u);
@@ -131501,7 +131582,7 @@ static void f152(module *self, u64 p0, u64 p1, u64 p2, u32 p3, u32 p4) {
   j3 += j4;
   i3 = (u32)(j3);
   i3 = i32_load8_u(j3);
-  f157(self, j0, j1, i2, i3); m = self->memory; if (NEVER(self->is_broken)) return;
+  f158(self, j0, j1, i2, i3); m = self->memory; if (NEVER(self->is_broken)) return;
   j0 = l5;
   i0 = (u32)(j0);
   i0 = i32_load8_u(j0 + 4504u);
@@ -131518,7 +131599,7 @@ static void f152(module *self, u64 p0, u64 p1, u64 p2, u32 p3, u32 p4) {
   j3 += j4;
   i3 = (u32)(j3);
   i3 = i32_load8_u(j3);
-  f157(self, j0, j1, i2, i3); m = self->memory; if (NEVER(self->is_broken)) return;
+  f158(self, j0, j1, i2, i3); m = self->memory; if (NEVER(self->is_broken)) return;
   j0 = l5;
   i0 = (u32)(j0);
   i0 = i32_load8_u(j0 + 4504u);
@@ -131535,7 +131616,7 @@ static void f152(module *self, u64 p0, u64 p1, u64 p2, u32 p3, u32 p4) {
   j3 += j4;
   i3 = (u32)(j3);
   i3 = i32_load8_u(j3);
-  f157(self, j0, j1, i2, i3); m = self->memory; if (NEVER(self->is_broken)) return;
+  f158(self, j0, j1, i2, i3); m = self->memory; if (NEVER(self->is_broken)) return;
   j0 = l5;
   i0 = (u32)(j0);
   i0 = i32_load8_u(j0 + 4504u);
@@ -131552,7 +131633,7 @@ static void f152(module *self, u64 p0, u64 p1, u64 p2, u32 p3, u32 p4) {
   j1 += j2;
   i2 = 962u;
   i3 = l19;
-  f157(self, j0, j1, i2, i3); m = self->memory; if (NEVER(self->is_broken)) return;
+  f158(self, j0, j1, i2, i3); m = self->memory; if (NEVER(self->is_broken)) return;
   j0 = l5;
   i0 = (u32)(j0);
   i0 = i32_load8_u(j0 + 4528u);
@@ -131590,7 +131671,7 @@ static void f152(module *self, u64 p0, u64 p1, u64 p2, u32 p3, u32 p4) {
   j2 = i64_load(j2 + 4488u);
   l12 = j2;
   j3 = p1;
-  f134(self, j0, j1, j2, j3); m = self->memory; if (NEVER(self->is_broken)) return;
+  f135(self, j0, j1, j2, j3); m = self->memory; if (NEVER(self->is_broken)) return;
   j0 = l5;
   i0 = (u32)(j0);
   j0 = i64_load(j0 + 112u);
@@ -131613,7 +131694,7 @@ static void f152(module *self, u64 p0, u64 p1, u64 p2, u32 p3, u32 p4) {
   i0 = !(j0);
   if (i0) {goto B86;}
   j0 = l9;
-  f244(self, j0);
+  f245(self, j0);
   B86:;
   j0 = p0;
   i0 = (u32)(j0);
@@ -131726,7 +131807,7 @@ static void f152(module *self, u64 p0, u64 p1, u64 p2, u32 p3, u32 p4) {
   j0 += j1;
   j1 = l7;
   j2 = 1ull;
-  f241(self, j0, j1, j2); m = self->memory; if (NEVER(self->is_broken)) return;
+  f242(self, j0, j1, j2); m = self->memory; if (NEVER(self->is_broken)) return;
   j0 = l5;
   i0 = (u32)(j0);
   j0 = i64_load(j0 + 56u);
@@ -131754,7 +131835,7 @@ static void f152(module *self, u64 p0, u64 p1, u64 p2, u32 p3, u32 p4) {
   j0 += j1;
   j1 = 265086ull;
   j2 = 1ull;
-  f241(self, j0, j1, j2); m = self->memory; if (NEVER(self->is_broken)) return;
+  f242(self, j0, j1, j2); m = self->memory; if (NEVER(self->is_broken)) return;
   j0 = l5;
   i0 = (u32)(j0);
   j0 = i64_load(j0 + 40u);
@@ -131798,7 +131879,7 @@ static void f152(module *self, u64 p0, u64 p1, u64 p2, u32 p3, u32 p4) {
   j1 = 2264ull;
   j0 += j1;
   j1 = l6;
-  f160(self, j0, j1); if (NEVER(self->is_broken)) return;
+  f161(self, j0, j1); if (NEVER(self->is_broken)) return;
   j0 = p1;
   j1 = 136ull;
   j0 += j1;
@@ -131851,7 +131932,7 @@ static void f152(module *self, u64 p0, u64 p1, u64 p2, u32 p3, u32 p4) {
   j0 += j1;
   j1 = l8;
   j2 = 1ull;
-  f241(self, j0, j1, j2); m = self->memory; if (NEVER(self->is_broken)) return;
+  f242(self, j0, j1, j2); m = self->memory; if (NEVER(self->is_broken)) return;
   j0 = l5;
   i0 = (u32)(j0);
   j0 = i64_load(j0 + 24u);
@@ -131879,7 +131960,7 @@ static void f152(module *self, u64 p0, u64 p1, u64 p2, u32 p3, u32 p4) {
   j0 += j1;
   j1 = 265086ull;
   j2 = 1ull;
-  f241(self, j0, j1, j2); m = self->memory; if (NEVER(self->is_broken)) return;
+  f242(self, j0, j1, j2); m = self->memory; if (NEVER(self->is_broken)) return;
   j0 = l5;
   i0 = (u32)(j0);
   j0 = i64_load(j0 + 8u);
@@ -131921,7 +132002,7 @@ static void f152(module *self, u64 p0, u64 p1, u64 p2, u32 p3, u32 p4) {
   B99:;
   j0 = p1;
   j1 = l7;
-  f160(self, j0, j1); if (NEVER(self->is_broken)) return;
+  f161(self, j0, j1); if (NEVER(self->is_broken)) return;
   j0 = p2;
   j1 = l8;
   i0 = j0 != j1;
@@ -131993,7 +132074,7 @@ static void f152(module *self, u64 p0, u64 p1, u64 p2, u32 p3, u32 p4) {
   j0 = l6;
   j1 = p2;
   j2 = l7;
-  i0 = f161(self, j0, j1, j2); if (NEVER(self->is_broken)) return;
+  i0 = f162(self, j0, j1, j2); if (NEVER(self->is_broken)) return;
   i0 = !(i0);
   if (i0) {goto B106;}
   goto B105;
@@ -132154,7 +132235,7 @@ static void f152(module *self, u64 p0, u64 p1, u64 p2, u32 p3, u32 p4) {
   j0 = p1;
   j1 = 263029ull;
   j2 = p2;
-  i0 = f161(self, j0, j1, j2); if (NEVER(self->is_broken)) return;
+  i0 = f162(self, j0, j1, j2); if (NEVER(self->is_broken)) return;
   p3 = i0;
   i1 = 1u;
   i0 ^= i1;
@@ -132163,12 +132244,12 @@ static void f152(module *self, u64 p0, u64 p1, u64 p2, u32 p3, u32 p4) {
   i0 = l14;
   if (i0) {goto B110;}
   j0 = l7;
-  f244(self, j0);
+  f245(self, j0);
   B110:;
   i0 = l19;
   if (i0) {goto B111;}
   j0 = l6;
-  f244(self, j0);
+  f245(self, j0);
   B111:;
   i0 = p4;
   if (i0) {goto B89;}
@@ -132208,19 +132289,19 @@ static void f152(module *self, u64 p0, u64 p1, u64 p2, u32 p3, u32 p4) {
   j0 = l5;
   i0 = (u32)(j0);
   j0 = i64_load(j0 + 2264u);
-  f244(self, j0);
+  f245(self, j0);
   B112:;
   j0 = l7;
   i0 = !(j0);
   if (i0) {goto B113;}
   j0 = p2;
-  f244(self, j0);
+  f245(self, j0);
   B113:;
   j0 = l6;
   i0 = !(j0);
   if (i0) {goto B114;}
   j0 = p1;
-  f244(self, j0);
+  f245(self, j0);
   B114:;
   j0 = l5;
   i0 = (u32)(j0);
@@ -132247,7 +132328,7 @@ static void f152(module *self, u64 p0, u64 p1, u64 p2, u32 p3, u32 p4) {
   j0 = l5;
   i0 = (u32)(j0);
   j0 = i64_load(j0 + 4384u);
-  f142(self, j0);
+  f143(self, j0);
   B115:;
   i0 = p4;
   i1 = 255u;
@@ -132256,7 +132337,7 @@ static void f152(module *self, u64 p0, u64 p1, u64 p2, u32 p3, u32 p4) {
   i0 = i0 != i1;
   if (i0) {goto B116;}
   j0 = l6;
-  f142(self, j0);
+  f143(self, j0);
   B116:;
   j0 = l9;
   j1 = 8ull;
@@ -132276,7 +132357,7 @@ static void f152(module *self, u64 p0, u64 p1, u64 p2, u32 p3, u32 p4) {
   i0 = l19;
   if (i0) {goto B91;}
   j0 = l6;
-  f244(self, j0);
+  f245(self, j0);
   B91:;
   j0 = l5;
   i0 = (u32)(j0);
@@ -132302,19 +132383,19 @@ static void f152(module *self, u64 p0, u64 p1, u64 p2, u32 p3, u32 p4) {
   j0 = l5;
   i0 = (u32)(j0);
   j0 = i64_load(j0 + 2264u);
-  f244(self, j0);
+  f245(self, j0);
   B117:;
   j0 = l7;
   i0 = !(j0);
   if (i0) {goto B118;}
   j0 = p2;
-  f244(self, j0);
+  f245(self, j0);
   B118:;
   j0 = l6;
   i0 = !(j0);
   if (i0) {goto B119;}
   j0 = p1;
-  f244(self, j0);
+  f245(self, j0);
   B119:;
   j0 = l5;
   i0 = (u32)(j0);
@@ -132350,12 +132431,12 @@ static void f152(module *self, u64 p0, u64 p1, u64 p2, u32 p3, u32 p4) {
   j0 = i64_load(j0 + 16u);
   l8 = j0;
   j0 = l7;
-  f244(self, j0);
+  f245(self, j0);
   j0 = l8;
   i0 = !(j0);
   if (i0) {goto B120;}
   j0 = p2;
-  f244(self, j0);
+  f245(self, j0);
   B120:;
   i0 = p4;
   i1 = 255u;
@@ -132372,12 +132453,12 @@ static void f152(module *self, u64 p0, u64 p1, u64 p2, u32 p3, u32 p4) {
   j0 = i64_load(j0 + 16u);
   p2 = j0;
   j0 = p1;
-  f244(self, j0);
+  f245(self, j0);
   j0 = p2;
   i0 = !(j0);
   if (i0) {goto B121;}
   j0 = l7;
-  f244(self, j0);
+  f245(self, j0);
   B121:;
   i0 = p3;
   i1 = 255u;
@@ -132394,18 +132475,18 @@ static void f152(module *self, u64 p0, u64 p1, u64 p2, u32 p3, u32 p4) {
   j0 = i64_load(j0 + 16u);
   l7 = j0;
   j0 = l6;
-  f244(self, j0);
+  f245(self, j0);
   j0 = l7;
   i0 = !(j0);
   if (i0) {goto B122;}
   j0 = p1;
-  f244(self, j0);
+  f245(self, j0);
   B122:;
   j0 = l10;
   i0 = !(j0);
   if (i0) {goto B123;}
   j0 = l9;
-  f244(self, j0);
+  f245(self, j0);
   B123:;
   j0 = p0;
   i0 = (u32)(j0);
@@ -132450,7 +132531,7 @@ static void f152(module *self, u64 p0, u64 p1, u64 p2, u32 p3, u32 p4) {
   goto B0;
   B90:;
   j0 = p1;
-  f142(self, j0);
+  f143(self, j0);
   goto B88;
   B89:;
   j0 = l5;
@@ -132521,19 +132602,19 @@ static void f152(module *self, u64 p0, u64 p1, u64 p2, u32 p3, u32 p4) {
   j0 = l5;
   i0 = (u32)(j0);
   j0 = i64_load(j0 + 2264u);
-  f244(self, j0);
+  f245(self, j0);
   B124:;
   j0 = l11;
   i0 = !(j0);
   if (i0) {goto B125;}
   j0 = l12;
-  f244(self, j0);
+  f245(self, j0);
   B125:;
   j0 = p2;
   i0 = !(j0);
   if (i0) {goto B126;}
   j0 = l8;
-  f244(self, j0);
+  f245(self, j0);
   B126:;
   j0 = l5;
   i0 = (u32)(j0);
@@ -132560,7 +132641,7 @@ static void f152(module *self, u64 p0, u64 p1, u64 p2, u32 p3, u32 p4) {
   j0 = l5;
   i0 = (u32)(j0);
   j0 = i64_load(j0 + 4384u);
-  f142(self, j0);
+  f143(self, j0);
   B127:;
   j0 = l6;
   j1 = 32ull;
@@ -132577,7 +132658,7 @@ static void f152(module *self, u64 p0, u64 p1, u64 p2, u32 p3, u32 p4) {
   i0 = i0 != i1;
   if (i0) {goto B128;}
   j0 = l8;
-  f142(self, j0);
+  f143(self, j0);
   B128:;
   j0 = p1;
   j1 = l6;
@@ -132592,7 +132673,7 @@ static void f152(module *self, u64 p0, u64 p1, u64 p2, u32 p3, u32 p4) {
   i0 = i0 != i1;
   if (i0) {goto B129;}
   j0 = p2;
-  f142(self, j0);
+  f143(self, j0);
   B129:;
   j0 = l7;
   j1 = l6;
@@ -132606,7 +132687,7 @@ static void f152(module *self, u64 p0, u64 p1, u64 p2, u32 p3, u32 p4) {
   i0 = !(j0);
   if (i0) {goto B130;}
   j0 = l9;
-  f244(self, j0);
+  f245(self, j0);
   B130:;
   j0 = 0ull;
   l10 = j0;
@@ -132745,7 +132826,7 @@ static void f152(module *self, u64 p0, u64 p1, u64 p2, u32 p3, u32 p4) {
   j0 = l5;
   i0 = (u32)(j0);
   j0 = i64_load(j0 + 4480u);
-  f244(self, j0);
+  f245(self, j0);
   goto B1;
   B8:;
   j0 = l5;
@@ -132771,7 +132852,7 @@ static void f152(module *self, u64 p0, u64 p1, u64 p2, u32 p3, u32 p4) {
   j0 = l5;
   i0 = (u32)(j0);
   j0 = i64_load(j0 + 4480u);
-  f244(self, j0);
+  f245(self, j0);
   goto B1;
   B5:;
   j0 = l5;
@@ -132816,7 +132897,7 @@ static void f152(module *self, u64 p0, u64 p1, u64 p2, u32 p3, u32 p4) {
   j0 = l5;
   i0 = (u32)(j0);
   j0 = i64_load(j0 + 4480u);
-  f244(self, j0);
+  f245(self, j0);
   B1:;
   j0 = p0;
   j1 = 14ull;
@@ -132871,7 +132952,7 @@ static void f152(module *self, u64 p0, u64 p1, u64 p2, u32 p3, u32 p4) {
   self->g0 = j0;
 }
 
-static void f153(module *self, u64 p0, u64 p1, u32 p2, u32 p3, u32 p4) {
+static void f154(module *self, u64 p0, u64 p1, u32 p2, u32 p3, u32 p4) {
   u64 l5 = 0, l6 = 0, l7 = 0;
   u8 *m = self->memory;
   u32 i0, i1, i2, i3;
@@ -132984,7 +133065,7 @@ static void f153(module *self, u64 p0, u64 p1, u32 p2, u32 p3, u32 p4) {
   self->g0 = j0;
 }
 
-static void f154(module *self, u64 p0, u64 p1, u32 p2, u32 p3) {
+static void f155(module *self, u64 p0, u64 p1, u32 p2, u32 p3) {
   u64 l4 = 0, l5 = 0, l6 = 0;
   u8 *m = self->memory;
   u32 i0, i1, i2;
@@ -133104,7 +133185,7 @@ static void f154(module *self, u64 p0, u64 p1, u32 p2, u32 p3) {
   self->g0 = j0;
 }
 
-static void f155(module *self, u64 p0, u64 p1, u32 p2, u32 p3) {
+static void f156(module *self, u64 p0, u64 p1, u32 p2, u32 p3) {
   u64 l4 = 0, l5 = 0, l6 = 0;
   u8 *m = self->memory;
   u32 i0, i1, i2;
@@ -133318,7 +133399,7 @@ static void f155(module *self, u64 p0, u64 p1, u32 p2, u32 p3) {
   self->g0 = j0;
 }
 
-static void f156(module *self, u64 p0, u64 p1, u64 p2, u32 p3) {
+static void f157(module *self, u64 p0, u64 p1, u64 p2, u32 p3) {
   u32 l8 = 0;
   u64 l4 = 0, l5 = 0, l6 = 0, l7 = 0;
   u8 *m = self->memory;
@@ -133515,7 +133596,7 @@ static void f156(module *self, u64 p0, u64 p1, u64 p2, u32 p3) {
   j0 += j1;
   j1 = p1;
   i2 = p3;
-  f162(self, j0, j1, i2); m = self->memory; if (NEVER(self->is_broken)) return;
+  f163(self, j0, j1, i2); m = self->memory; if (NEVER(self->is_broken)) return;
   j0 = l4;
   i0 = (u32)(j0);
   i0 = i32_load8_u(j0 + 8u);
@@ -133616,7 +133697,7 @@ static void f156(module *self, u64 p0, u64 p1, u64 p2, u32 p3) {
   j2 = i64_load(j2);
   i2 = (u32)(j2);
   i2 = i32_load(j2);
-  f162(self, j0, j1, i2); m = self->memory; if (NEVER(self->is_broken)) return;
+  f163(self, j0, j1, i2); m = self->memory; if (NEVER(self->is_broken)) return;
   j0 = l4;
   i0 = (u32)(j0);
   j0 = i64_load(j0 + 48u);
@@ -133677,7 +133758,7 @@ static void f156(module *self, u64 p0, u64 p1, u64 p2, u32 p3) {
   self->g0 = j0;
 }
 
-static void f157(module *self, u64 p0, u64 p1, u32 p2, u32 p3) {
+static void f158(module *self, u64 p0, u64 p1, u32 p2, u32 p3) {
   u64 l4 = 0, l5 = 0;
   u8 *m = self->memory;
   u32 i0, i1;
@@ -133790,7 +133871,7 @@ static void f157(module *self, u64 p0, u64 p1, u32 p2, u32 p3) {
   self->g0 = j0;
 }
 
-static void f158(module *self, u64 p0, u64 p1, u32 p2, u64 p3) {
+static void f159(module *self, u64 p0, u64 p1, u32 p2, u64 p3) {
   u32 l8 = 0, l9 = 0;
   u64 l4 = 0, l5 = 0, l6 = 0, l7 = 0;
   u8 *m = self->memory;
@@ -134133,7 +134214,7 @@ static void f158(module *self, u64 p0, u64 p1, u32 p2, u64 p3) {
   self->g0 = j0;
 }
 
-static void f159(module *self, u64 p0, u64 p1, u32 p2, u64 p3, u32 p4, u32 p5) {
+static void f160(module *self, u64 p0, u64 p1, u32 p2, u64 p3, u32 p4, u32 p5) {
   u32 l8 = 0, l9 = 0, l10 = 0, l11 = 0, l12 = 0;
   u64 l6 = 0, l7 = 0;
   u8 *m = self->memory;
@@ -134820,7 +134901,7 @@ static void f159(module *self, u64 p0, u64 p1, u32 p2, u64 p3, u32 p4, u32 p5) {
   self->g0 = j0;
 }
 
-static void f160(module *self, u64 p0, u64 p1) {
+static void f161(module *self, u64 p0, u64 p1) {
   u32 l2 = 0, l3 = 0, l4 = 0, l5 = 0;
   u8 *m = self->memory;
   u32 i0, i1, i2;
@@ -135092,7 +135173,7 @@ static void f160(module *self, u64 p0, u64 p1) {
   f35(self, j0, j1, j2); if (NEVER(self->is_broken)) return;
 }
 
-static u32 f161(module *self, u64 p0, u64 p1, u64 p2) {
+static u32 f162(module *self, u64 p0, u64 p1, u64 p2) {
   u32 l10 = 0;
   u64 l3 = 0, l4 = 0, l5 = 0, l6 = 0, l7 = 0, l8 = 0, l9 = 0;
   u8 *m = self->memory;
@@ -137036,7 +137117,7 @@ static u32 f161(module *self, u64 p0, u64 p1, u64 p2) {
   return i0;
 }
 
-static void f162(module *self, u64 p0, u64 p1, u32 p2) {
+static void f163(module *self, u64 p0, u64 p1, u32 p2) {
   u64 l3 = 0, l4 = 0, l5 = 0, l6 = 0;
   u8 *m = self->memory;
   u32 i0, i1, i2;
@@ -137550,7 +137631,7 @@ static void f162(module *self, u64 p0, u64 p1, u32 p2) {
   self->g0 = j0;
 }
 
-static u32 f163(module *self, u64 p0, u64 p1, u64 p2) {
+static u32 f164(module *self, u64 p0, u64 p1, u64 p2) {
   u32 l10 = 0, l11 = 0, l12 = 0, l13 = 0, l14 = 0, l15 = 0, l16 = 0, l17 = 0, 
       l18 = 0, l19 = 0, l20 = 0, l21 = 0, l22 = 0, l23 = 0, l24 = 0, l25 = 0, 
       l26 = 0, l27 = 0;
@@ -138396,13 +138477,13 @@ static u32 f163(module *self, u64 p0, u64 p1, u64 p2) {
   j1 = 14ull;
   j0 += j1;
   j1 = l7;
-  f164(self, j0, j1);
+  f165(self, j0, j1);
   j0 = l3;
   j1 = 14ull;
   j0 += j1;
   j1 = l6;
   j2 = l5;
-  i0 = f165(self, j0, j1, j2);
+  i0 = f166(self, j0, j1, j2);
   i0 = !(i0);
   if (i0) {goto B0;}
   j0 = p0;
@@ -138542,7 +138623,7 @@ static u32 f163(module *self, u64 p0, u64 p1, u64 p2) {
   return i0;
 }
 
-static void f164(module *self, u64 p0, u64 p1) {
+static void f165(module *self, u64 p0, u64 p1) {
   u32 l2 = 0, l3 = 0, l4 = 0, l5 = 0, l6 = 0, l7 = 0, l8 = 0;
   u8 *m = self->memory;
   u32 i0, i1, i2;
@@ -138635,7 +138716,7 @@ static void f164(module *self, u64 p0, u64 p1) {
   i32_store8(j0 + 11, i1);
 }
 
-static u32 f165(module *self, u64 p0, u64 p1, u64 p2) {
+static u32 f166(module *self, u64 p0, u64 p1, u64 p2) {
   u32 l3 = 0, l4 = 0, l5 = 0, l6 = 0, l7 = 0, l8 = 0, l9 = 0, l10 = 0;
   u64 l11 = 0;
   u8 *m = self->memory;
@@ -138769,7 +138850,7 @@ static u32 f165(module *self, u64 p0, u64 p1, u64 p2) {
   return i0;
 }
 
-static u32 f166(module *self, u64 p0, u64 p1) {
+static u32 f167(module *self, u64 p0, u64 p1) {
   u32 l2 = 0, l3 = 0, l4 = 0, l5 = 0, l6 = 0, l7 = 0, l8 = 0, l9 = 0;
   u64 l10 = 0, l11 = 0, l12 = 0, l13 = 0, l14 = 0, l15 = 0, l16 = 0, l17 = 0, 
       l18 = 0, l19 = 0, l20 = 0, l21 = 0, l22 = 0, l23 = 0, l24 = 0, l25 = 0, 
@@ -139388,7 +139469,7 @@ static u32 f166(module *self, u64 p0, u64 p1) {
   return i0;
 }
 
-static void f167(module *self, u64 p0, u64 p1, u64 p2, u64 p3, u64 p4, u64 p5, u64 p6) {
+static void f168(module *self, u64 p0, u64 p1, u64 p2, u64 p3, u64 p4, u64 p5, u64 p6) {
   u32 l15 = 0, l16 = 0;
   u64 l7 = 0, l8 = 0, l9 = 0, l10 = 0, l11 = 0, l12 = 0, l13 = 0, l14 = 0;
   u8 *m = self->memory;
@@ -139492,7 +139573,7 @@ static void f167(module *self, u64 p0, u64 p1, u64 p2, u64 p3, u64 p4, u64 p5, u
   i1 = (u32)(j1);
   j1 = i64_load(j1);
   j2 = p3;
-  f143(self, j0, j1, j2); if (NEVER(self->is_broken)) return;
+  f144(self, j0, j1, j2); if (NEVER(self->is_broken)) return;
   j0 = l7;
   i0 = (u32)(j0);
   j0 = i64_load(j0 + 136u);
@@ -139518,7 +139599,7 @@ static void f167(module *self, u64 p0, u64 p1, u64 p2, u64 p3, u64 p4, u64 p5, u
   if (i0) {goto B9;}
   j0 = p1;
   j1 = p3;
-  i0 = f168(self, j0, j1); m = self->memory; if (NEVER(self->is_broken)) return;
+  i0 = f169(self, j0, j1); m = self->memory; if (NEVER(self->is_broken)) return;
   i0 = !(i0);
   if (i0) {goto B6;}
   j0 = p1;
@@ -139662,7 +139743,7 @@ static void f167(module *self, u64 p0, u64 p1, u64 p2, u64 p3, u64 p4, u64 p5, u
   if (i0) {goto B17;}
   j0 = p1;
   j1 = 7ull;
-  i0 = f168(self, j0, j1); m = self->memory; if (NEVER(self->is_broken)) return;
+  i0 = f169(self, j0, j1); m = self->memory; if (NEVER(self->is_broken)) return;
   i0 = !(i0);
   if (i0) {goto B16;}
   j0 = l10;
@@ -139746,7 +139827,7 @@ static void f167(module *self, u64 p0, u64 p1, u64 p2, u64 p3, u64 p4, u64 p5, u
     if (i0) {goto B22;}
     j0 = p1;
     j1 = 2ull;
-    i0 = f168(self, j0, j1); m = self->memory; if (NEVER(self->is_broken)) return;
+    i0 = f169(self, j0, j1); m = self->memory; if (NEVER(self->is_broken)) return;
     i0 = !(i0);
     if (i0) {goto B20;}
     j0 = p1;
@@ -140288,7 +140369,7 @@ static void f167(module *self, u64 p0, u64 p1, u64 p2, u64 p3, u64 p4, u64 p5, u
   if (i0) {goto B41;}
   j0 = p1;
   j1 = 10ull;
-  i0 = f168(self, j0, j1); m = self->memory; if (NEVER(self->is_broken)) return;
+  i0 = f169(self, j0, j1); m = self->memory; if (NEVER(self->is_broken)) return;
   i0 = !(i0);
   if (i0) {goto B40;}
   j0 = p1;
@@ -140474,7 +140555,7 @@ static void f167(module *self, u64 p0, u64 p1, u64 p2, u64 p3, u64 p4, u64 p5, u
   if (i0) {goto B45;}
   j0 = p1;
   j1 = 11ull;
-  i0 = f168(self, j0, j1); m = self->memory; if (NEVER(self->is_broken)) return;
+  i0 = f169(self, j0, j1); m = self->memory; if (NEVER(self->is_broken)) return;
   i0 = !(i0);
   if (i0) {goto B44;}
   j0 = p1;
@@ -140676,7 +140757,7 @@ static void f167(module *self, u64 p0, u64 p1, u64 p2, u64 p3, u64 p4, u64 p5, u
   if (i0) {goto B49;}
   j0 = p1;
   j1 = 12ull;
-  i0 = f168(self, j0, j1); m = self->memory; if (NEVER(self->is_broken)) return;
+  i0 = f169(self, j0, j1); m = self->memory; if (NEVER(self->is_broken)) return;
   i0 = !(i0);
   if (i0) {goto B48;}
   j0 = p1;
@@ -140878,7 +140959,7 @@ static void f167(module *self, u64 p0, u64 p1, u64 p2, u64 p3, u64 p4, u64 p5, u
   if (i0) {goto B53;}
   j0 = p1;
   j1 = p3;
-  i0 = f168(self, j0, j1); m = self->memory; if (NEVER(self->is_broken)) return;
+  i0 = f169(self, j0, j1); m = self->memory; if (NEVER(self->is_broken)) return;
   i0 = !(i0);
   if (i0) {goto B52;}
   j0 = p1;
@@ -141079,7 +141160,7 @@ static void f167(module *self, u64 p0, u64 p1, u64 p2, u64 p3, u64 p4, u64 p5, u
   if (i0) {goto B60;}
   j0 = p1;
   j1 = 1ull;
-  i0 = f168(self, j0, j1); m = self->memory; if (NEVER(self->is_broken)) return;
+  i0 = f169(self, j0, j1); m = self->memory; if (NEVER(self->is_broken)) return;
   i0 = !(i0);
   if (i0) {goto B59;}
   j0 = l10;
@@ -141162,12 +141243,12 @@ static void f167(module *self, u64 p0, u64 p1, u64 p2, u64 p3, u64 p4, u64 p5, u
   j0 = i64_load(j0 + 16u);
   p3 = j0;
   j0 = p1;
-  f244(self, j0);
+  f245(self, j0);
   j0 = p3;
   i0 = !(j0);
   if (i0) {goto B0;}
   j0 = p6;
-  f244(self, j0);
+  f245(self, j0);
   B0:;
   j0 = p0;
   i0 = (u32)(j0);
@@ -141192,7 +141273,7 @@ static void f167(module *self, u64 p0, u64 p1, u64 p2, u64 p3, u64 p4, u64 p5, u
   self->g0 = j0;
 }
 
-static u32 f168(module *self, u64 p0, u64 p1) {
+static u32 f169(module *self, u64 p0, u64 p1) {
   u32 l6 = 0;
   u64 l2 = 0, l3 = 0, l4 = 0, l5 = 0;
   u8 *m = self->memory;
@@ -141261,7 +141342,7 @@ static u32 f168(module *self, u64 p0, u64 p1) {
   j2 = l3;
   j3 = p1;
   j4 = 1ull;
-  f243(self, j0, j1, j2, j3, j4); m = self->memory; if (NEVER(self->is_broken)) return ZAK_BROKEN;
+  f244(self, j0, j1, j2, j3, j4); m = self->memory; if (NEVER(self->is_broken)) return ZAK_BROKEN;
   j0 = l2;
   i0 = (u32)(j0);
   j0 = i64_load(j0 + 16u);
@@ -141279,7 +141360,7 @@ static u32 f168(module *self, u64 p0, u64 p1) {
   j0 = l2;
   j1 = l5;
   j2 = 1ull;
-  f241(self, j0, j1, j2); m = self->memory; if (NEVER(self->is_broken)) return ZAK_BROKEN;
+  f242(self, j0, j1, j2); m = self->memory; if (NEVER(self->is_broken)) return ZAK_BROKEN;
   j0 = l2;
   i0 = (u32)(j0);
   j0 = i64_load(j0);
@@ -141314,7 +141395,7 @@ static u32 f168(module *self, u64 p0, u64 p1) {
   return i0;
 }
 
-static void f169(module *self, u64 p0, u64 p1, u64 p2, u64 p3) {
+static void f170(module *self, u64 p0, u64 p1, u64 p2, u64 p3) {
   u32 l14 = 0, l15 = 0, l16 = 0;
   u64 l4 = 0, l5 = 0, l6 = 0, l7 = 0, l8 = 0, l9 = 0, l10 = 0, l11 = 0, 
       l12 = 0, l13 = 0;
@@ -141500,7 +141581,7 @@ static void f169(module *self, u64 p0, u64 p1, u64 p2, u64 p3) {
   j1 = 1792ull;
   j0 += j1;
   j1 = p2;
-  f138(self, j0, j1); if (NEVER(self->is_broken)) return;
+  f139(self, j0, j1); if (NEVER(self->is_broken)) return;
   i0 = l15;
   i1 = l14;
   i0 *= i1;
@@ -141748,7 +141829,7 @@ static void f169(module *self, u64 p0, u64 p1, u64 p2, u64 p3) {
   if (i0) {goto B14;}
   j0 = p1;
   j1 = p3;
-  i0 = f168(self, j0, j1); m = self->memory; if (NEVER(self->is_broken)) return;
+  i0 = f169(self, j0, j1); m = self->memory; if (NEVER(self->is_broken)) return;
   i0 = !(i0);
   if (i0) {goto B4;}
   j0 = p1;
@@ -142051,7 +142132,7 @@ static void f169(module *self, u64 p0, u64 p1, u64 p2, u64 p3) {
   if (i0) {goto B23;}
   j0 = p1;
   j1 = p3;
-  i0 = f168(self, j0, j1); m = self->memory; if (NEVER(self->is_broken)) return;
+  i0 = f169(self, j0, j1); m = self->memory; if (NEVER(self->is_broken)) return;
   i0 = !(i0);
   if (i0) {goto B3;}
   j0 = p1;
@@ -142122,7 +142203,7 @@ static void f169(module *self, u64 p0, u64 p1, u64 p2, u64 p3) {
   if (i0) {goto B27;}
   j0 = p1;
   j1 = l5;
-  i0 = f168(self, j0, j1); m = self->memory; if (NEVER(self->is_broken)) return;
+  i0 = f169(self, j0, j1); m = self->memory; if (NEVER(self->is_broken)) return;
   i0 = !(i0);
   if (i0) {goto B2;}
   j0 = p1;
@@ -142300,7 +142381,7 @@ static void f169(module *self, u64 p0, u64 p1, u64 p2, u64 p3) {
   if (i0) {goto B34;}
   j0 = p1;
   j1 = 1ull;
-  i0 = f168(self, j0, j1); m = self->memory; if (NEVER(self->is_broken)) return;
+  i0 = f169(self, j0, j1); m = self->memory; if (NEVER(self->is_broken)) return;
   i0 = !(i0);
   if (i0) {goto B33;}
   j0 = p1;
@@ -142397,7 +142478,7 @@ static void f169(module *self, u64 p0, u64 p1, u64 p2, u64 p3) {
   j1 = 1792ull;
   j0 += j1;
   j1 = p2;
-  f138(self, j0, j1); if (NEVER(self->is_broken)) return;
+  f139(self, j0, j1); if (NEVER(self->is_broken)) return;
   j0 = l4;
   i0 = (u32)(j0);
   j0 = i64_load(j0 + 1848u);
@@ -142457,7 +142538,7 @@ static void f169(module *self, u64 p0, u64 p1, u64 p2, u64 p3) {
   if (i0) {goto B37;}
   j0 = p1;
   j1 = p3;
-  i0 = f168(self, j0, j1); m = self->memory; if (NEVER(self->is_broken)) return;
+  i0 = f169(self, j0, j1); m = self->memory; if (NEVER(self->is_broken)) return;
   i0 = !(i0);
   if (i0) {goto B36;}
   j0 = p1;
@@ -142578,7 +142659,7 @@ static void f169(module *self, u64 p0, u64 p1, u64 p2, u64 p3) {
   self->g0 = j0;
 }
 
-static void f170(module *self, u64 p0, u64 p1, u64 p2, u64 p3, u64 p4) {
+static void f171(module *self, u64 p0, u64 p1, u64 p2, u64 p3, u64 p4) {
   u32 l8 = 0;
   u64 l5 = 0, l6 = 0, l7 = 0;
   u8 *m = self->memory;
@@ -142651,7 +142732,7 @@ static void f170(module *self, u64 p0, u64 p1, u64 p2, u64 p3, u64 p4) {
   j1 = 32ull;
   j0 += j1;
   j1 = p2;
-  f138(self, j0, j1); if (NEVER(self->is_broken)) return;
+  f139(self, j0, j1); if (NEVER(self->is_broken)) return;
   j0 = l5;
   i0 = (u32)(j0);
   j0 = i64_load(j0 + 88u);
@@ -142677,7 +142758,7 @@ static void f170(module *self, u64 p0, u64 p1, u64 p2, u64 p3, u64 p4) {
   if (i0) {goto B6;}
   j0 = p1;
   j1 = p4;
-  i0 = f168(self, j0, j1); m = self->memory; if (NEVER(self->is_broken)) return;
+  i0 = f169(self, j0, j1); m = self->memory; if (NEVER(self->is_broken)) return;
   i0 = !(i0);
   if (i0) {goto B4;}
   j0 = p1;
@@ -142736,7 +142817,7 @@ static void f170(module *self, u64 p0, u64 p1, u64 p2, u64 p3, u64 p4) {
   j3 = l5;
   j4 = 26ull;
   j3 += j4;
-  f171(self, j0, j1, j2, j3); m = self->memory; if (NEVER(self->is_broken)) return;
+  f172(self, j0, j1, j2, j3); m = self->memory; if (NEVER(self->is_broken)) return;
   j0 = l5;
   i0 = (u32)(j0);
   i0 = i32_load8_u(j0);
@@ -142883,7 +142964,7 @@ static void f170(module *self, u64 p0, u64 p1, u64 p2, u64 p3, u64 p4) {
   if (i0) {goto B10;}
   j0 = p1;
   j1 = p2;
-  i0 = f168(self, j0, j1); m = self->memory; if (NEVER(self->is_broken)) return;
+  i0 = f169(self, j0, j1); m = self->memory; if (NEVER(self->is_broken)) return;
   i0 = !(i0);
   if (i0) {goto B9;}
   j0 = p1;
@@ -142976,7 +143057,7 @@ static void f170(module *self, u64 p0, u64 p1, u64 p2, u64 p3, u64 p4) {
   self->g0 = j0;
 }
 
-static void f171(module *self, u64 p0, u64 p1, u64 p2, u64 p3) {
+static void f172(module *self, u64 p0, u64 p1, u64 p2, u64 p3) {
   u32 l9 = 0, l10 = 0, l11 = 0, l12 = 0, l13 = 0;
   u64 l4 = 0, l5 = 0, l6 = 0, l7 = 0, l8 = 0;
   u8 *m = self->memory;
@@ -143020,7 +143101,7 @@ static void f171(module *self, u64 p0, u64 p1, u64 p2, u64 p3) {
   j1 = 1592ull;
   j0 += j1;
   j1 = p2;
-  f144(self, j0, j1);
+  f145(self, j0, j1);
   j0 = l4;
   i0 = (u32)(j0);
   j0 = i64_load(j0 + 2376u);
@@ -143046,7 +143127,7 @@ static void f171(module *self, u64 p0, u64 p1, u64 p2, u64 p3) {
   if (i0) {goto B10;}
   j0 = p1;
   j1 = p3;
-  i0 = f168(self, j0, j1); m = self->memory; if (NEVER(self->is_broken)) return;
+  i0 = f169(self, j0, j1); m = self->memory; if (NEVER(self->is_broken)) return;
   i0 = !(i0);
   if (i0) {goto B9;}
   j0 = p1;
@@ -143174,7 +143255,7 @@ static void f171(module *self, u64 p0, u64 p1, u64 p2, u64 p3) {
   if (i0) {goto B13;}
   j0 = p1;
   j1 = 19ull;
-  i0 = f168(self, j0, j1); m = self->memory; if (NEVER(self->is_broken)) return;
+  i0 = f169(self, j0, j1); m = self->memory; if (NEVER(self->is_broken)) return;
   i0 = !(i0);
   if (i0) {goto B12;}
   j0 = p1;
@@ -143602,7 +143683,7 @@ static void f171(module *self, u64 p0, u64 p1, u64 p2, u64 p3) {
   j2 = 1592ull;
   j1 += j2;
   i2 = l9;
-  f145(self, j0, j1, i2); if (NEVER(self->is_broken)) return;
+  f146(self, j0, j1, i2); if (NEVER(self->is_broken)) return;
   j0 = l4;
   i0 = (u32)(j0);
   j0 = i64_load(j0 + 792u);
@@ -143628,7 +143709,7 @@ static void f171(module *self, u64 p0, u64 p1, u64 p2, u64 p3) {
   if (i0) {goto B21;}
   j0 = p1;
   j1 = p3;
-  i0 = f168(self, j0, j1); m = self->memory; if (NEVER(self->is_broken)) return;
+  i0 = f169(self, j0, j1); m = self->memory; if (NEVER(self->is_broken)) return;
   i0 = !(i0);
   if (i0) {goto B20;}
   j0 = p1;
@@ -143738,7 +143819,7 @@ static void f171(module *self, u64 p0, u64 p1, u64 p2, u64 p3) {
   if (i0) {goto B24;}
   j0 = p1;
   j1 = 20ull;
-  i0 = f168(self, j0, j1); m = self->memory; if (NEVER(self->is_broken)) return;
+  i0 = f169(self, j0, j1); m = self->memory; if (NEVER(self->is_broken)) return;
   i0 = !(i0);
   if (i0) {goto B23;}
   j0 = p1;
@@ -144010,7 +144091,7 @@ static void f171(module *self, u64 p0, u64 p1, u64 p2, u64 p3) {
   i2 = l9;
   i3 = l10;
   i4 = l11;
-  f146(self, j0, j1, i2, i3, i4);
+  f147(self, j0, j1, i2, i3, i4);
   j0 = l4;
   i0 = (u32)(j0);
   j0 = i64_load(j0 + 2376u);
@@ -144036,7 +144117,7 @@ static void f171(module *self, u64 p0, u64 p1, u64 p2, u64 p3) {
   if (i0) {goto B26;}
   j0 = p1;
   j1 = p3;
-  i0 = f168(self, j0, j1); m = self->memory; if (NEVER(self->is_broken)) return;
+  i0 = f169(self, j0, j1); m = self->memory; if (NEVER(self->is_broken)) return;
   i0 = !(i0);
   if (i0) {goto B25;}
   j0 = p1;
@@ -144134,7 +144215,7 @@ static void f171(module *self, u64 p0, u64 p1, u64 p2, u64 p3) {
   j1 = p2;
   j2 = 2072ull;
   j1 += j2;
-  f147(self, j0, j1);
+  f148(self, j0, j1);
   j0 = l4;
   i0 = (u32)(j0);
   j0 = i64_load(j0 + 2376u);
@@ -144160,7 +144241,7 @@ static void f171(module *self, u64 p0, u64 p1, u64 p2, u64 p3) {
   if (i0) {goto B29;}
   j0 = p1;
   j1 = p3;
-  i0 = f168(self, j0, j1); m = self->memory; if (NEVER(self->is_broken)) return;
+  i0 = f169(self, j0, j1); m = self->memory; if (NEVER(self->is_broken)) return;
   i0 = !(i0);
   if (i0) {goto B28;}
   j0 = p1;
@@ -144299,7 +144380,7 @@ static void f171(module *self, u64 p0, u64 p1, u64 p2, u64 p3) {
     j1 = p2;
     j2 = l8;
     i3 = l9;
-    f148(self, j0, j1, j2, i3);
+    f149(self, j0, j1, j2, i3);
     j0 = l4;
     j1 = 800ull;
     j0 += j1;
@@ -144336,7 +144417,7 @@ static void f171(module *self, u64 p0, u64 p1, u64 p2, u64 p3) {
     if (i0) {goto B38;}
     j0 = p1;
     j1 = p3;
-    i0 = f168(self, j0, j1); m = self->memory; if (NEVER(self->is_broken)) return;
+    i0 = f169(self, j0, j1); m = self->memory; if (NEVER(self->is_broken)) return;
     i0 = !(i0);
     if (i0) {goto B31;}
     j0 = p1;
@@ -144495,7 +144576,7 @@ static void f171(module *self, u64 p0, u64 p1, u64 p2, u64 p3) {
   self->g0 = j0;
 }
 
-static void f172(module *self, u64 p0, u64 p1, u64 p2, u64 p3, u64 p4, u64 p5) {
+static void f173(module *self, u64 p0, u64 p1, u64 p2, u64 p3, u64 p4, u64 p5) {
   u32 l37 = 0, l38 = 0, l39 = 0, l40 = 0, l41 = 0, l42 = 0, l43 = 0, l44 = 0, 
       l45 = 0, l46 = 0;
   u64 l6 = 0, l7 = 0, l8 = 0, l9 = 0, l10 = 0, l11 = 0, l12 = 0, l13 = 0, 
@@ -148040,7 +148121,7 @@ static void f172(module *self, u64 p0, u64 p1, u64 p2, u64 p3, u64 p4, u64 p5) {
     j4 |= j5;
     j5 = l28;
     j6 = p4;
-    f167(self, j0, j1, j2, j3, j4, j5, j6); m = self->memory; if (NEVER(self->is_broken)) return;
+    f168(self, j0, j1, j2, j3, j4, j5, j6); m = self->memory; if (NEVER(self->is_broken)) return;
     goto B77;
     B90:;
     i0 = l40;
@@ -148072,7 +148153,7 @@ static void f172(module *self, u64 p0, u64 p1, u64 p2, u64 p3, u64 p4, u64 p5) {
     j3 = l6;
     j4 = 184ull;
     j3 += j4;
-    f169(self, j0, j1, j2, j3); m = self->memory; if (NEVER(self->is_broken)) return;
+    f170(self, j0, j1, j2, j3); m = self->memory; if (NEVER(self->is_broken)) return;
     goto B77;
     B88:;
     j0 = l6;
@@ -148108,7 +148189,7 @@ static void f172(module *self, u64 p0, u64 p1, u64 p2, u64 p3, u64 p4, u64 p5) {
     j4 = l6;
     j5 = 80ull;
     j4 += j5;
-    f170(self, j0, j1, j2, j3, j4); m = self->memory; if (NEVER(self->is_broken)) return;
+    f171(self, j0, j1, j2, j3, j4); m = self->memory; if (NEVER(self->is_broken)) return;
     goto B77;
     B87:;
     j0 = p3;
@@ -149074,7 +149155,7 @@ static void f172(module *self, u64 p0, u64 p1, u64 p2, u64 p3, u64 p4, u64 p5) {
     if (i0) {goto B141;}
     j0 = p1;
     j1 = 10ull;
-    i0 = f168(self, j0, j1); m = self->memory; if (NEVER(self->is_broken)) return;
+    i0 = f169(self, j0, j1); m = self->memory; if (NEVER(self->is_broken)) return;
     i0 = !(i0);
     if (i0) {goto B140;}
     j0 = p1;
@@ -149259,7 +149340,7 @@ static void f172(module *self, u64 p0, u64 p1, u64 p2, u64 p3, u64 p4, u64 p5) {
     if (i0) {goto B145;}
     j0 = p1;
     j1 = 11ull;
-    i0 = f168(self, j0, j1); m = self->memory; if (NEVER(self->is_broken)) return;
+    i0 = f169(self, j0, j1); m = self->memory; if (NEVER(self->is_broken)) return;
     i0 = !(i0);
     if (i0) {goto B144;}
     j0 = p1;
@@ -149460,7 +149541,7 @@ static void f172(module *self, u64 p0, u64 p1, u64 p2, u64 p3, u64 p4, u64 p5) {
     if (i0) {goto B149;}
     j0 = p1;
     j1 = 12ull;
-    i0 = f168(self, j0, j1); m = self->memory; if (NEVER(self->is_broken)) return;
+    i0 = f169(self, j0, j1); m = self->memory; if (NEVER(self->is_broken)) return;
     i0 = !(i0);
     if (i0) {goto B148;}
     j0 = p1;
@@ -149661,7 +149742,7 @@ static void f172(module *self, u64 p0, u64 p1, u64 p2, u64 p3, u64 p4, u64 p5) {
     if (i0) {goto B153;}
     j0 = p1;
     j1 = p4;
-    i0 = f168(self, j0, j1); m = self->memory; if (NEVER(self->is_broken)) return;
+    i0 = f169(self, j0, j1); m = self->memory; if (NEVER(self->is_broken)) return;
     i0 = !(i0);
     if (i0) {goto B152;}
     j0 = p1;
@@ -149939,7 +150020,7 @@ static void f172(module *self, u64 p0, u64 p1, u64 p2, u64 p3, u64 p4, u64 p5) {
     B161:;
     j0 = l7;
     j1 = l28;
-    f138(self, j0, j1); if (NEVER(self->is_broken)) return;
+    f139(self, j0, j1); if (NEVER(self->is_broken)) return;
     j0 = p2;
     j1 = 72ull;
     j0 += j1;
@@ -150003,7 +150084,7 @@ static void f172(module *self, u64 p0, u64 p1, u64 p2, u64 p3, u64 p4, u64 p5) {
   self->g0 = j0;
 }
 
-static void f173(module *self, u64 p0, u64 p1, u64 p2) {
+static void f174(module *self, u64 p0, u64 p1, u64 p2) {
   u32 l16 = 0, l17 = 0, l18 = 0, l19 = 0, l20 = 0, l21 = 0, l22 = 0, l23 = 0, 
       l24 = 0, l25 = 0, l26 = 0, l27 = 0, l28 = 0, l29 = 0;
   u64 l3 = 0, l4 = 0, l5 = 0, l6 = 0, l7 = 0, l8 = 0, l9 = 0, l10 = 0, 
@@ -150938,7 +151019,7 @@ static void f173(module *self, u64 p0, u64 p1, u64 p2) {
     j0 = l3;
     j1 = 1744ull;
     j0 += j1;
-    i0 = f174(self, j0); m = self->memory; if (NEVER(self->is_broken)) return;
+    i0 = f175(self, j0); m = self->memory; if (NEVER(self->is_broken)) return;
     i0 = !(i0);
     if (i0) {goto B7;}
     j0 = l3;
@@ -151132,7 +151213,7 @@ static void f173(module *self, u64 p0, u64 p1, u64 p2) {
     j0 = l3;
     j1 = 1744ull;
     j0 += j1;
-    i0 = f175(self, j0); m = self->memory; if (NEVER(self->is_broken)) return;
+    i0 = f176(self, j0); m = self->memory; if (NEVER(self->is_broken)) return;
     i0 = !(i0);
     if (i0) {goto B14;}
     j0 = l3;
@@ -151153,13 +151234,13 @@ static void f173(module *self, u64 p0, u64 p1, u64 p2) {
     j0 = l3;
     i0 = (u32)(j0);
     j0 = i64_load(j0 + 1744u);
-    f244(self, j0);
+    f245(self, j0);
     B15:;
     j0 = l14;
     i0 = !(j0);
     if (i0) {goto B6;}
     j0 = l15;
-    f244(self, j0);
+    f245(self, j0);
     goto B6;
     B13:;
     j0 = l11;
@@ -151394,7 +151475,7 @@ static void f173(module *self, u64 p0, u64 p1, u64 p2) {
       j0 = l3;
       j1 = 1744ull;
       j0 += j1;
-      i0 = f175(self, j0); m = self->memory; if (NEVER(self->is_broken)) return;
+      i0 = f176(self, j0); m = self->memory; if (NEVER(self->is_broken)) return;
       i0 = !(i0);
       if (i0) {goto B17;}
       j0 = l3;
@@ -151529,7 +151610,7 @@ static void f173(module *self, u64 p0, u64 p1, u64 p2) {
       j0 = l3;
       j1 = 1744ull;
       j0 += j1;
-      i0 = f175(self, j0); m = self->memory; if (NEVER(self->is_broken)) return;
+      i0 = f176(self, j0); m = self->memory; if (NEVER(self->is_broken)) return;
       i0 = !(i0);
       if (i0) {goto B17;}
       j0 = l3;
@@ -151597,7 +151678,7 @@ static void f173(module *self, u64 p0, u64 p1, u64 p2) {
   j0 = l3;
   i0 = (u32)(j0);
   j0 = i64_load(j0 + 1744u);
-  f244(self, j0);
+  f245(self, j0);
   B25:;
   j0 = p0;
   j1 = 8ull;
@@ -151966,7 +152047,7 @@ static void f173(module *self, u64 p0, u64 p1, u64 p2) {
   j0 = l3;
   i0 = (u32)(j0);
   j0 = i64_load(j0 + 1744u);
-  f244(self, j0);
+  f245(self, j0);
   B6:;
   j0 = p0;
   j1 = 8ull;
@@ -151993,7 +152074,7 @@ static void f173(module *self, u64 p0, u64 p1, u64 p2) {
   self->g0 = j0;
 }
 
-static u32 f174(module *self, u64 p0) {
+static u32 f175(module *self, u64 p0) {
   u32 l6 = 0;
   u64 l1 = 0, l2 = 0, l3 = 0, l4 = 0, l5 = 0;
   u8 *m = self->memory;
@@ -152063,7 +152144,7 @@ static u32 f174(module *self, u64 p0) {
   j4 = 1ull;
   j3 <<= (j4 & 63);
   j4 = 1ull;
-  f243(self, j0, j1, j2, j3, j4); m = self->memory; if (NEVER(self->is_broken)) return ZAK_BROKEN;
+  f244(self, j0, j1, j2, j3, j4); m = self->memory; if (NEVER(self->is_broken)) return ZAK_BROKEN;
   j0 = l1;
   i0 = (u32)(j0);
   j0 = i64_load(j0 + 16u);
@@ -152083,7 +152164,7 @@ static u32 f174(module *self, u64 p0) {
   j2 = 1ull;
   j1 <<= (j2 & 63);
   j2 = 1ull;
-  f241(self, j0, j1, j2); m = self->memory; if (NEVER(self->is_broken)) return ZAK_BROKEN;
+  f242(self, j0, j1, j2); m = self->memory; if (NEVER(self->is_broken)) return ZAK_BROKEN;
   j0 = l1;
   i0 = (u32)(j0);
   j0 = i64_load(j0);
@@ -152118,7 +152199,7 @@ static u32 f174(module *self, u64 p0) {
   return i0;
 }
 
-static u32 f175(module *self, u64 p0) {
+static u32 f176(module *self, u64 p0) {
   u32 l6 = 0;
   u64 l1 = 0, l2 = 0, l3 = 0, l4 = 0, l5 = 0;
   u8 *m = self->memory;
@@ -152184,7 +152265,7 @@ static u32 f175(module *self, u64 p0) {
   j2 = l2;
   j3 = l3;
   j4 = 1ull;
-  f243(self, j0, j1, j2, j3, j4); m = self->memory; if (NEVER(self->is_broken)) return ZAK_BROKEN;
+  f244(self, j0, j1, j2, j3, j4); m = self->memory; if (NEVER(self->is_broken)) return ZAK_BROKEN;
   j0 = l1;
   i0 = (u32)(j0);
   j0 = i64_load(j0 + 16u);
@@ -152202,7 +152283,7 @@ static u32 f175(module *self, u64 p0) {
   j0 = l1;
   j1 = l5;
   j2 = 1ull;
-  f241(self, j0, j1, j2); m = self->memory; if (NEVER(self->is_broken)) return ZAK_BROKEN;
+  f242(self, j0, j1, j2); m = self->memory; if (NEVER(self->is_broken)) return ZAK_BROKEN;
   j0 = l1;
   i0 = (u32)(j0);
   j0 = i64_load(j0);
@@ -152237,7 +152318,7 @@ static u32 f175(module *self, u64 p0) {
   return i0;
 }
 
-static u32 f176(module *self, u64 p0, u64 p1, u64 p2, u64 p3, u64 p4) {
+static u32 f177(module *self, u64 p0, u64 p1, u64 p2, u64 p3, u64 p4) {
   u32 l11 = 0, l12 = 0, l13 = 0, l14 = 0;
   u64 l5 = 0, l6 = 0, l7 = 0, l8 = 0, l9 = 0, l10 = 0;
   u8 *m = self->memory;
@@ -152367,7 +152448,7 @@ static u32 f176(module *self, u64 p0, u64 p1, u64 p2, u64 p3, u64 p4) {
   j3 = l5;
   j4 = 72ull;
   j3 += j4;
-  f171(self, j0, j1, j2, j3); m = self->memory; if (NEVER(self->is_broken)) return ZAK_BROKEN;
+  f172(self, j0, j1, j2, j3); m = self->memory; if (NEVER(self->is_broken)) return ZAK_BROKEN;
   j0 = l5;
   i0 = (u32)(j0);
   i0 = i32_load8_u(j0 + 8u);
@@ -152526,7 +152607,7 @@ static u32 f176(module *self, u64 p0, u64 p1, u64 p2, u64 p3, u64 p4) {
   i0 = !(j0);
   if (i0) {goto B2;}
   j0 = l8;
-  f244(self, j0);
+  f245(self, j0);
   goto B2;
   B4:;
   j0 = l5;
@@ -152543,7 +152624,7 @@ static u32 f176(module *self, u64 p0, u64 p1, u64 p2, u64 p3, u64 p4) {
   j0 = l5;
   i0 = (u32)(j0);
   j0 = i64_load(j0 + 32u);
-  f244(self, j0);
+  f245(self, j0);
   goto B2;
   B3:;
   i0 = 23u;
@@ -152556,7 +152637,7 @@ static u32 f176(module *self, u64 p0, u64 p1, u64 p2, u64 p3, u64 p4) {
   j0 = l5;
   i0 = (u32)(j0);
   j0 = i64_load(j0 + 32u);
-  f244(self, j0);
+  f245(self, j0);
   B2:;
   j0 = p0;
   i0 = (u32)(j0);
@@ -152927,7 +153008,7 @@ static u32 module_zak_assemble(module *self, u64 p0, u64 p1, u64 p2, u64 p3, u64
   j0 = l6;
   i0 = (u32)(j0);
   j0 = i64_load(j0 + 32u);
-  f244(self, j0);
+  f245(self, j0);
   B18:;
   j0 = 0ull;
   l10 = j0;
@@ -152940,7 +153021,7 @@ static u32 module_zak_assemble(module *self, u64 p0, u64 p1, u64 p2, u64 p3, u64
   i0 = !(j0);
   if (i0) {goto B19;}
   j0 = l7;
-  f244(self, j0);
+  f245(self, j0);
   B19:;
   i0 = l17;
   if (i0) {goto B8;}
@@ -153119,7 +153200,7 @@ static u32 module_zak_assemble(module *self, u64 p0, u64 p1, u64 p2, u64 p3, u64
   i0 = !(j0);
   if (i0) {goto B0;}
   j0 = l9;
-  f244(self, j0);
+  f245(self, j0);
   goto B0;
   B7:;
   j0 = p5;
@@ -153697,24 +153778,24 @@ static u32 module_zak_close(module *self, u64 p0) {
   j0 = i64_load(j0 + 16u);
   l12 = j0;
   j0 = l4;
-  f244(self, j0);
+  f245(self, j0);
   j0 = l12;
   i0 = !(j0);
   if (i0) {goto B2;}
   j0 = l11;
-  f244(self, j0);
+  f245(self, j0);
   B2:;
   j0 = l9;
   i0 = !(j0);
   if (i0) {goto B3;}
   j0 = l10;
-  f244(self, j0);
+  f245(self, j0);
   B3:;
   j0 = l7;
   i0 = !(j0);
   if (i0) {goto B4;}
   j0 = l8;
-  f244(self, j0);
+  f245(self, j0);
   B4:;
   i0 = l3;
   i1 = 255u;
@@ -153730,12 +153811,12 @@ static u32 module_zak_close(module *self, u64 p0) {
   j0 = i64_load(j0 + 16u);
   l4 = j0;
   j0 = l6;
-  f244(self, j0);
+  f245(self, j0);
   j0 = l4;
   i0 = !(j0);
   if (i0) {goto B5;}
   j0 = l7;
-  f244(self, j0);
+  f245(self, j0);
   B5:;
   i0 = l1;
   i1 = 255u;
@@ -153751,12 +153832,12 @@ static u32 module_zak_close(module *self, u64 p0) {
   j0 = i64_load(j0 + 16u);
   l4 = j0;
   j0 = l5;
-  f244(self, j0);
+  f245(self, j0);
   j0 = l4;
   i0 = !(j0);
   if (i0) {goto B6;}
   j0 = l6;
-  f244(self, j0);
+  f245(self, j0);
   B6:;
   i0 = 0u;
   l1 = i0;
@@ -153774,12 +153855,12 @@ static u32 module_zak_close(module *self, u64 p0) {
   j0 = i64_load(j0 + 16u);
   l4 = j0;
   j0 = p0;
-  f244(self, j0);
+  f245(self, j0);
   j0 = l4;
   i0 = !(j0);
   if (i0) {goto B0;}
   j0 = l5;
-  f244(self, j0);
+  f245(self, j0);
   B0:;
   i0 = l1;
   return i0;
@@ -154065,7 +154146,7 @@ static u32 module_zak_cycles(module *self, u64 p0, u64 p1, u64 p2, u64 p3, u64 p
   j0 += j1;
   j1 = p1;
   j2 = 1ull;
-  f241(self, j0, j1, j2); m = self->memory; if (NEVER(self->is_broken)) return ZAK_BROKEN;
+  f242(self, j0, j1, j2); m = self->memory; if (NEVER(self->is_broken)) return ZAK_BROKEN;
   j0 = l7;
   i0 = (u32)(j0);
   j0 = i64_load(j0 + 32u);
@@ -154093,7 +154174,7 @@ static u32 module_zak_cycles(module *self, u64 p0, u64 p1, u64 p2, u64 p3, u64 p
   j0 += j1;
   j1 = 265046ull;
   j2 = 1ull;
-  f241(self, j0, j1, j2); m = self->memory; if (NEVER(self->is_broken)) return ZAK_BROKEN;
+  f242(self, j0, j1, j2); m = self->memory; if (NEVER(self->is_broken)) return ZAK_BROKEN;
   j0 = l7;
   i0 = (u32)(j0);
   j0 = i64_load(j0 + 16u);
@@ -154278,7 +154359,7 @@ static u32 module_zak_cycles(module *self, u64 p0, u64 p1, u64 p2, u64 p3, u64 p
   i0 = l23;
   if (i0) {goto B16;}
   j0 = l10;
-  f244(self, j0);
+  f245(self, j0);
   B16:;
   j0 = p5;
   j1 = 16777216ull;
@@ -154389,7 +154470,7 @@ static u32 module_zak_cycles(module *self, u64 p0, u64 p1, u64 p2, u64 p3, u64 p
   i0 = l23;
   if (i0) {goto B6;}
   j0 = l10;
-  f244(self, j0);
+  f245(self, j0);
   i0 = 23u;
   l23 = i0;
   goto B2;
@@ -154397,7 +154478,7 @@ static u32 module_zak_cycles(module *self, u64 p0, u64 p1, u64 p2, u64 p3, u64 p
   j0 = l7;
   j1 = p1;
   j2 = 1ull;
-  f241(self, j0, j1, j2); m = self->memory; if (NEVER(self->is_broken)) return ZAK_BROKEN;
+  f242(self, j0, j1, j2); m = self->memory; if (NEVER(self->is_broken)) return ZAK_BROKEN;
   j0 = l7;
   i0 = (u32)(j0);
   j0 = i64_load(j0);
@@ -154424,19 +154505,19 @@ static u32 module_zak_cycles(module *self, u64 p0, u64 p1, u64 p2, u64 p3, u64 p
   i0 = !(j0);
   if (i0) {goto B19;}
   j0 = l13;
-  f244(self, j0);
+  f245(self, j0);
   B19:;
   j0 = l19;
   i0 = !(j0);
   if (i0) {goto B20;}
   j0 = l21;
-  f244(self, j0);
+  f245(self, j0);
   B20:;
   j0 = l15;
   i0 = !(j0);
   if (i0) {goto B6;}
   j0 = l17;
-  f244(self, j0);
+  f245(self, j0);
   i0 = 23u;
   l23 = i0;
   goto B2;
@@ -154795,25 +154876,25 @@ static u32 module_zak_cycles(module *self, u64 p0, u64 p1, u64 p2, u64 p3, u64 p
   i0 = !(j0);
   if (i0) {goto B23;}
   j0 = l10;
-  f244(self, j0);
+  f245(self, j0);
   B23:;
   j0 = l15;
   i0 = !(j0);
   if (i0) {goto B24;}
   j0 = l17;
-  f244(self, j0);
+  f245(self, j0);
   B24:;
   j0 = l11;
   i0 = !(j0);
   if (i0) {goto B25;}
   j0 = l13;
-  f244(self, j0);
+  f245(self, j0);
   B25:;
   j0 = p3;
   i0 = !(j0);
   if (i0) {goto B5;}
   j0 = l19;
-  f244(self, j0);
+  f245(self, j0);
   goto B5;
   B22:;
   j0 = l7;
@@ -154824,19 +154905,19 @@ static u32 module_zak_cycles(module *self, u64 p0, u64 p1, u64 p2, u64 p3, u64 p
   i0 = !(j0);
   if (i0) {goto B26;}
   j0 = l17;
-  f244(self, j0);
+  f245(self, j0);
   B26:;
   j0 = l11;
   i0 = !(j0);
   if (i0) {goto B27;}
   j0 = l13;
-  f244(self, j0);
+  f245(self, j0);
   B27:;
   j0 = p3;
   i0 = !(j0);
   if (i0) {goto B28;}
   j0 = l19;
-  f244(self, j0);
+  f245(self, j0);
   B28:;
   j0 = p1;
   p3 = j0;
@@ -154874,19 +154955,19 @@ static u32 module_zak_cycles(module *self, u64 p0, u64 p1, u64 p2, u64 p3, u64 p
   j0 = l7;
   i0 = (u32)(j0);
   j0 = i64_load(j0 + 2112u);
-  f244(self, j0);
+  f245(self, j0);
   B30:;
   j0 = p5;
   i0 = !(j0);
   if (i0) {goto B31;}
   j0 = p3;
-  f244(self, j0);
+  f245(self, j0);
   B31:;
   j0 = p1;
   i0 = !(j0);
   if (i0) {goto B32;}
   j0 = p2;
-  f244(self, j0);
+  f245(self, j0);
   B32:;
   j0 = l7;
   i0 = (u32)(j0);
@@ -154896,7 +154977,7 @@ static u32 module_zak_cycles(module *self, u64 p0, u64 p1, u64 p2, u64 p3, u64 p
   j0 = l7;
   i0 = (u32)(j0);
   j0 = i64_load(j0 + 4184u);
-  f244(self, j0);
+  f245(self, j0);
   B33:;
   i0 = l23;
   i1 = 1u;
@@ -154928,19 +155009,19 @@ static u32 module_zak_cycles(module *self, u64 p0, u64 p1, u64 p2, u64 p3, u64 p
   j0 = l7;
   i0 = (u32)(j0);
   j0 = i64_load(j0 + 2112u);
-  f244(self, j0);
+  f245(self, j0);
   B34:;
   j0 = p5;
   i0 = !(j0);
   if (i0) {goto B35;}
   j0 = p3;
-  f244(self, j0);
+  f245(self, j0);
   B35:;
   j0 = p1;
   i0 = !(j0);
   if (i0) {goto B36;}
   j0 = p2;
-  f244(self, j0);
+  f245(self, j0);
   B36:;
   j0 = l7;
   i0 = (u32)(j0);
@@ -154950,7 +155031,7 @@ static u32 module_zak_cycles(module *self, u64 p0, u64 p1, u64 p2, u64 p3, u64 p
   j0 = l7;
   i0 = (u32)(j0);
   j0 = i64_load(j0 + 4184u);
-  f244(self, j0);
+  f245(self, j0);
   B6:;
   i0 = 23u;
   l23 = i0;
@@ -154991,12 +155072,12 @@ static u32 module_zak_cycles(module *self, u64 p0, u64 p1, u64 p2, u64 p3, u64 p
   j0 = i64_load(j0 + 16u);
   l15 = j0;
   j0 = l11;
-  f244(self, j0);
+  f245(self, j0);
   j0 = l15;
   i0 = !(j0);
   if (i0) {goto B37;}
   j0 = l19;
-  f244(self, j0);
+  f245(self, j0);
   B37:;
   j0 = p1;
   j1 = 16777216ull;
@@ -155157,7 +155238,7 @@ static u32 module_zak_cycles(module *self, u64 p0, u64 p1, u64 p2, u64 p3, u64 p
   i0 = !(j0);
   if (i0) {goto B2;}
   j0 = l10;
-  f244(self, j0);
+  f245(self, j0);
   B2:;
   j0 = p0;
   i0 = (u32)(j0);
@@ -163666,7 +163747,7 @@ static u32 module_zak_explain_text(module *self, u64 p0, u64 p1, u64 p2, u64 p3,
   j0 = l6;
   i0 = (u32)(j0);
   j0 = i64_load(j0 + 584u);
-  f244(self, j0);
+  f245(self, j0);
   goto B22;
   B59:;
   j0 = l6;
@@ -163902,7 +163983,7 @@ static u32 module_zak_explain_text(module *self, u64 p0, u64 p1, u64 p2, u64 p3,
   j0 = l6;
   i0 = (u32)(j0);
   j0 = i64_load(j0 + 584u);
-  f244(self, j0);
+  f245(self, j0);
   B75:;
   i0 = l33;
   if (i0) {goto B22;}
@@ -164041,7 +164122,7 @@ static u32 module_zak_explain_text(module *self, u64 p0, u64 p1, u64 p2, u64 p3,
   j0 = l6;
   i0 = (u32)(j0);
   j0 = i64_load(j0 + 584u);
-  f244(self, j0);
+  f245(self, j0);
   B77:;
   i0 = 23u;
   l33 = i0;
@@ -166712,7 +166793,7 @@ static u32 module_zak_explain_text(module *self, u64 p0, u64 p1, u64 p2, u64 p3,
   j0 = l6;
   i0 = (u32)(j0);
   j0 = i64_load(j0 + 80u);
-  f244(self, j0);
+  f245(self, j0);
   B193:;
   i0 = 23u;
   l33 = i0;
@@ -169782,7 +169863,7 @@ static u32 module_zak_frame_indexed(module *self, u64 p0, u64 p1, u64 p2, u64 p3
   j0 += j1;
   j1 = 262144ull;
   j2 = 1ull;
-  f241(self, j0, j1, j2); m = self->memory; if (NEVER(self->is_broken)) return ZAK_BROKEN;
+  f242(self, j0, j1, j2); m = self->memory; if (NEVER(self->is_broken)) return ZAK_BROKEN;
   i0 = 23u;
   l14 = i0;
   j0 = l5;
@@ -170062,7 +170143,7 @@ static u32 module_zak_frame_indexed(module *self, u64 p0, u64 p1, u64 p2, u64 p3
   l14 = i0;
   B3:;
   j0 = l7;
-  f244(self, j0);
+  f245(self, j0);
   B2:;
   j0 = p0;
   i0 = (u32)(j0);
@@ -174548,12 +174629,12 @@ static u32 module_zak_int10(module *self, u64 p0, u64 p1, u64 p2, u64 p3, u64 p4
   j0 = i64_load(j0 + 16u);
   p1 = j0;
   j0 = p2;
-  f244(self, j0);
+  f245(self, j0);
   j0 = p1;
   i0 = !(j0);
   if (i0) {goto B2;}
   j0 = p3;
-  f244(self, j0);
+  f245(self, j0);
   goto B2;
   B3:;
   i0 = 23u;
@@ -175453,7 +175534,7 @@ static u32 module_zak_open(module *self, u64 p0, u64 p1, u64 p2) {
   j0 = l3;
   j1 = 2160ull;
   j2 = 8ull;
-  f241(self, j0, j1, j2); m = self->memory; if (NEVER(self->is_broken)) return ZAK_BROKEN;
+  f242(self, j0, j1, j2); m = self->memory; if (NEVER(self->is_broken)) return ZAK_BROKEN;
   j0 = l3;
   i0 = (u32)(j0);
   j0 = i64_load(j0);
@@ -175676,19 +175757,19 @@ static u32 module_zak_open(module *self, u64 p0, u64 p1, u64 p2) {
   i0 = !(j0);
   if (i0) {goto B3;}
   j0 = p1;
-  f244(self, j0);
+  f245(self, j0);
   B3:;
   j0 = l11;
   i0 = !(j0);
   if (i0) {goto B4;}
   j0 = l13;
-  f244(self, j0);
+  f245(self, j0);
   B4:;
   j0 = l7;
   i0 = !(j0);
   if (i0) {goto B5;}
   j0 = l9;
-  f244(self, j0);
+  f245(self, j0);
   B5:;
   i0 = l17;
   i1 = 255u;
@@ -175705,12 +175786,12 @@ static u32 module_zak_open(module *self, u64 p0, u64 p1, u64 p2) {
   j0 = i64_load(j0 + 16u);
   p0 = j0;
   j0 = l14;
-  f244(self, j0);
+  f245(self, j0);
   j0 = p0;
   i0 = !(j0);
   if (i0) {goto B6;}
   j0 = p1;
-  f244(self, j0);
+  f245(self, j0);
   B6:;
   i0 = l18;
   i1 = 255u;
@@ -175727,12 +175808,12 @@ static u32 module_zak_open(module *self, u64 p0, u64 p1, u64 p2) {
   j0 = i64_load(j0 + 16u);
   p0 = j0;
   j0 = l15;
-  f244(self, j0);
+  f245(self, j0);
   j0 = p0;
   i0 = !(j0);
   if (i0) {goto B7;}
   j0 = p1;
-  f244(self, j0);
+  f245(self, j0);
   B7:;
   i0 = 23u;
   l17 = i0;
@@ -175751,12 +175832,12 @@ static u32 module_zak_open(module *self, u64 p0, u64 p1, u64 p2) {
   j0 = i64_load(j0 + 16u);
   p0 = j0;
   j0 = l16;
-  f244(self, j0);
+  f245(self, j0);
   j0 = p0;
   i0 = !(j0);
   if (i0) {goto B0;}
   j0 = p1;
-  f244(self, j0);
+  f245(self, j0);
   goto B0;
   B1:;
   i0 = 22u;
@@ -177160,7 +177241,7 @@ static u32 module_zak_print(module *self, u64 p0, u64 p1, u64 p2, u64 p3, u64 p4
   j0 = l6;
   i0 = (u32)(j0);
   j0 = i64_load(j0 + 176u);
-  f244(self, j0);
+  f245(self, j0);
   goto B9;
   B11:;
   j0 = l6;
@@ -179468,7 +179549,7 @@ static u32 module_zak_print(module *self, u64 p0, u64 p1, u64 p2, u64 p3, u64 p4
     j0 = l6;
     i0 = (u32)(j0);
     j0 = i64_load(j0 + 24u);
-    f244(self, j0);
+    f245(self, j0);
     goto B19;
     B30:;
     j0 = l10;
@@ -179512,12 +179593,12 @@ static u32 module_zak_print(module *self, u64 p0, u64 p1, u64 p2, u64 p3, u64 p4
   j0 = l6;
   i0 = (u32)(j0);
   j0 = i64_load(j0 + 24u);
-  f244(self, j0);
+  f245(self, j0);
   B19:;
   i0 = l33;
   if (i0) {goto B79;}
   j0 = l9;
-  f244(self, j0);
+  f245(self, j0);
   B79:;
   i0 = l32;
   if (i0) {goto B8;}
@@ -179696,7 +179777,7 @@ static u32 module_zak_print(module *self, u64 p0, u64 p1, u64 p2, u64 p3, u64 p4
   i0 = l34;
   if (i0) {goto B0;}
   j0 = l11;
-  f244(self, j0);
+  f245(self, j0);
   goto B0;
   B7:;
   j0 = p5;
@@ -179750,23 +179831,25 @@ static u32 module_zak_print(module *self, u64 p0, u64 p1, u64 p2, u64 p3, u64 p4
 }
 
 static u32 module_zak_put(module *self, u64 p0, u32 p1, u32 p2) {
-  u32 l7 = 0;
-  u64 l3 = 0, l4 = 0, l5 = 0, l6 = 0;
+  u32 l3 = 0;
+  u64 l4 = 0, l5 = 0, l6 = 0, l7 = 0;
   u8 *m = self->memory;
   u32 i0, i1, i2, i3, i4, i5;
   u64 j0, j1, j2, j3;
-  j0 = p0;
-  i0 = (u32)(j0);
-  i0 = i32_load8_u(j0);
-  i1 = 1u;
-  i0 = i0 != i1;
-  if (i0) {goto B0;}
   j0 = p0;
   j1 = 4ull;
   j0 += j1;
   i0 = (u32)(j0);
   i0 = i32_load(j0);
-  if (i0) {goto B0;}
+  l3 = i0;
+  j0 = p0;
+  i0 = (u32)(j0);
+  i0 = i32_load8_u(j0);
+  i1 = 1u;
+  i0 = i0 != i1;
+  if (i0) {goto B3;}
+  i0 = l3;
+  if (i0) {goto B2;}
   j0 = p0;
   i0 = (u32)(j0);
   j1 = 0ull;
@@ -179774,12 +179857,12 @@ static u32 module_zak_put(module *self, u64 p0, u32 p1, u32 p2) {
   j0 = p0;
   i0 = (u32)(j0);
   j0 = i64_load(j0 + 8u);
-  l3 = j0;
+  l4 = j0;
   j0 = p0;
   i0 = (u32)(j0);
   j1 = 0ull;
   i64_store(j0 + 8, j1);
-  j0 = l3;
+  j0 = l4;
   j1 = 72ull;
   j0 += j1;
   i0 = (u32)(j0);
@@ -179788,7 +179871,7 @@ static u32 module_zak_put(module *self, u64 p0, u32 p1, u32 p2) {
   i0 &= i1;
   i0 = !(i0);
   if (i0) {goto B1;}
-  j0 = l3;
+  j0 = l4;
   j1 = 2003ull;
   j0 += j1;
   i0 = (u32)(j0);
@@ -179798,14 +179881,14 @@ static u32 module_zak_put(module *self, u64 p0, u32 p1, u32 p2) {
   i0 = !(i0);
   if (i0) {goto B1;}
   i0 = p1;
-  j1 = l3;
+  j1 = l4;
   j2 = 60ull;
   j1 += j2;
   i1 = (u32)(j1);
   i1 = i32_load(j1);
   i0 -= i1;
-  l7 = i0;
-  j1 = l3;
+  l3 = i0;
+  j1 = l4;
   j2 = 64ull;
   j1 += j2;
   i1 = (u32)(j1);
@@ -179818,7 +179901,7 @@ static u32 module_zak_put(module *self, u64 p0, u32 p1, u32 p2) {
   i1 = 16843009u;
   i0 *= i1;
   p2 = i0;
-  j0 = l3;
+  j0 = l4;
   j1 = 68ull;
   j0 += j1;
   i0 = (u32)(j0);
@@ -179827,13 +179910,13 @@ static u32 module_zak_put(module *self, u64 p0, u32 p1, u32 p2) {
   i1 = 24u;
   i0 >>= (i1 & 31);
   j0 = (u64)(i0);
-  l4 = j0;
+  l5 = j0;
   i0 = p1;
   i1 = 1u;
   i0 &= i1;
   i0 = !(i0);
-  if (i0) {goto B3;}
-  i0 = l7;
+  if (i0) {goto B5;}
+  i0 = l3;
   j0 = (u64)(i0);
   j1 = 3ull;
   j0 &= j1;
@@ -179841,13 +179924,13 @@ static u32 module_zak_put(module *self, u64 p0, u32 p1, u32 p2) {
   j0 <<= (j1 & 63);
   i0 = (u32)(j0);
   j0 = i64_load(j0 + 1056864u);
-  l5 = j0;
-  goto B2;
-  B3:;
+  l6 = j0;
+  goto B4;
+  B5:;
   j0 = 15ull;
   j1 = 10ull;
   j2 = 5ull;
-  i3 = l7;
+  i3 = l3;
   i4 = 1u;
   i3 &= i4;
   j1 = i3 ? j1 : j2;
@@ -179855,18 +179938,18 @@ static u32 module_zak_put(module *self, u64 p0, u32 p1, u32 p2) {
   i3 = 65536u;
   i2 &= i3;
   j0 = i2 ? j0 : j1;
-  l5 = j0;
-  B2:;
-  j0 = l3;
+  l6 = j0;
+  B4:;
+  j0 = l4;
   i0 = (u32)(j0);
   j0 = i64_load(j0);
-  i1 = l7;
+  i1 = l3;
   i2 = 65532u;
   i1 &= i2;
-  i2 = l7;
+  i2 = l3;
   i3 = 65534u;
   i2 &= i3;
-  i3 = l7;
+  i3 = l3;
   i4 = p1;
   i5 = 256u;
   i4 &= i5;
@@ -179881,16 +179964,16 @@ static u32 module_zak_put(module *self, u64 p0, u32 p1, u32 p2) {
   j2 = 2ull;
   j1 <<= (j2 & 63);
   j0 += j1;
-  l6 = j0;
+  l7 = j0;
   i0 = (u32)(j0);
   i1 = p2;
-  j2 = l6;
+  j2 = l7;
   i2 = (u32)(j2);
   i2 = i32_load(j2);
   p1 = i2;
   i1 ^= i2;
-  j2 = l5;
-  j3 = l4;
+  j2 = l6;
+  j3 = l5;
   j2 &= j3;
   j3 = 2ull;
   j2 <<= (j3 & 63);
@@ -179916,9 +179999,19 @@ static u32 module_zak_put(module *self, u64 p0, u32 p1, u32 p2) {
   i32_store(j0 + 4, i1);
   j0 = p0;
   i0 = (u32)(j0);
-  j1 = l3;
+  j1 = l4;
   i64_store(j0 + 8, j1);
   i0 = 0u;
+  goto Bfunc;
+  B3:;
+  i0 = l3;
+  i0 = !(i0);
+  if (i0) {goto B0;}
+  B2:;
+  j0 = p0;
+  i1 = p1;
+  i2 = p2;
+  i0 = f125(self, j0, i1, i2); m = self->memory; if (NEVER(self->is_broken)) return ZAK_BROKEN;
   goto Bfunc;
   B1:;
   j0 = p0;
@@ -179935,13 +180028,13 @@ static u32 module_zak_put(module *self, u64 p0, u32 p1, u32 p2) {
   i32_store(j0 + 4, i1);
   j0 = p0;
   i0 = (u32)(j0);
-  j1 = l3;
+  j1 = l4;
   i64_store(j0 + 8, j1);
   B0:;
   j0 = p0;
   i1 = p1;
   i2 = p2;
-  i0 = f125(self, j0, i1, i2); m = self->memory; if (NEVER(self->is_broken)) return ZAK_BROKEN;
+  i0 = f129(self, j0, i1, i2); m = self->memory; if (NEVER(self->is_broken)) return ZAK_BROKEN;
   Bfunc:;
   return i0;
 }
@@ -180139,7 +180232,7 @@ static u32 module_zak_put_bytes(module *self, u64 p0, u32 p1, u64 p2, u64 p3, u3
   j4 = l10;
   j5 = p3;
   i6 = l11;
-  i1 = f129(self, j1, j2, i3, j4, j5, i6);
+  i1 = f130(self, j1, j2, i3, j4, j5, i6);
   p4 = i1;
   i0 = i0 <= i1;
   if (i0) {goto B6;}
@@ -180858,7 +180951,7 @@ static u32 module_zak_put_word(module *self, u64 p0, u32 p1, u32 p2) {
   j0 = p0;
   i1 = p1;
   i2 = p2;
-  i0 = f130(self, j0, i1, i2); m = self->memory; if (NEVER(self->is_broken)) return ZAK_BROKEN;
+  i0 = f131(self, j0, i1, i2); m = self->memory; if (NEVER(self->is_broken)) return ZAK_BROKEN;
   Bfunc:;
   return i0;
 }
@@ -183119,7 +183212,7 @@ static u32 module_zak_rebuild(module *self, u64 p0, u64 p1, u64 p2, u64 p3, u64 
   j1 = l9;
   i2 = 0u;
   i3 = 0u;
-  f131(self, j0, j1, i2, i3); m = self->memory; if (NEVER(self->is_broken)) return ZAK_BROKEN;
+  f132(self, j0, j1, i2, i3); m = self->memory; if (NEVER(self->is_broken)) return ZAK_BROKEN;
   j0 = 0ull;
   l13 = j0;
   j0 = l5;
@@ -183697,7 +183790,7 @@ static u32 module_zak_rebuild(module *self, u64 p0, u64 p1, u64 p2, u64 p3, u64 
   j1 = l9;
   i2 = 1u;
   i3 = 0u;
-  f131(self, j0, j1, i2, i3); m = self->memory; if (NEVER(self->is_broken)) return ZAK_BROKEN;
+  f132(self, j0, j1, i2, i3); m = self->memory; if (NEVER(self->is_broken)) return ZAK_BROKEN;
   j0 = 0ull;
   l24 = j0;
   j0 = l5;
@@ -184217,7 +184310,7 @@ static u32 module_zak_rebuild(module *self, u64 p0, u64 p1, u64 p2, u64 p3, u64 
   i3 = l59;
   i4 = 255u;
   i3 &= i4;
-  f131(self, j0, j1, i2, i3); m = self->memory; if (NEVER(self->is_broken)) return ZAK_BROKEN;
+  f132(self, j0, j1, i2, i3); m = self->memory; if (NEVER(self->is_broken)) return ZAK_BROKEN;
   j0 = 0ull;
   l39 = j0;
   j0 = l5;
@@ -184689,7 +184782,7 @@ static u32 module_zak_rebuild(module *self, u64 p0, u64 p1, u64 p2, u64 p3, u64 
   i5 &= i6;
   i4 |= i5;
   i3 |= i4;
-  f131(self, j0, j1, i2, i3); m = self->memory; if (NEVER(self->is_broken)) return ZAK_BROKEN;
+  f132(self, j0, j1, i2, i3); m = self->memory; if (NEVER(self->is_broken)) return ZAK_BROKEN;
   j0 = l5;
   i0 = (u32)(j0);
   i0 = i32_load8_u(j0 + 19568u);
@@ -184703,19 +184796,19 @@ static u32 module_zak_rebuild(module *self, u64 p0, u64 p1, u64 p2, u64 p3, u64 
   i0 = !(j0);
   if (i0) {goto B33;}
   j0 = l41;
-  f244(self, j0);
+  f245(self, j0);
   B33:;
   j0 = l46;
   i0 = !(j0);
   if (i0) {goto B34;}
   j0 = l44;
-  f244(self, j0);
+  f245(self, j0);
   B34:;
   j0 = l50;
   i0 = !(j0);
   if (i0) {goto B35;}
   j0 = l48;
-  f244(self, j0);
+  f245(self, j0);
   B35:;
   i0 = l68;
   i1 = 255u;
@@ -184724,7 +184817,7 @@ static u32 module_zak_rebuild(module *self, u64 p0, u64 p1, u64 p2, u64 p3, u64 
   i0 = i0 != i1;
   if (i0) {goto B36;}
   j0 = l40;
-  f142(self, j0);
+  f143(self, j0);
   B36:;
   i0 = l69;
   i1 = 255u;
@@ -184733,7 +184826,7 @@ static u32 module_zak_rebuild(module *self, u64 p0, u64 p1, u64 p2, u64 p3, u64 
   i0 = i0 != i1;
   if (i0) {goto B37;}
   j0 = l52;
-  f142(self, j0);
+  f143(self, j0);
   B37:;
   i0 = l70;
   i1 = 255u;
@@ -184742,25 +184835,25 @@ static u32 module_zak_rebuild(module *self, u64 p0, u64 p1, u64 p2, u64 p3, u64 
   i0 = i0 != i1;
   if (i0) {goto B38;}
   j0 = l53;
-  f142(self, j0);
+  f143(self, j0);
   B38:;
   j0 = l28;
   i0 = !(j0);
   if (i0) {goto B39;}
   j0 = l26;
-  f244(self, j0);
+  f245(self, j0);
   B39:;
   j0 = l31;
   i0 = !(j0);
   if (i0) {goto B40;}
   j0 = l29;
-  f244(self, j0);
+  f245(self, j0);
   B40:;
   j0 = l35;
   i0 = !(j0);
   if (i0) {goto B41;}
   j0 = l33;
-  f244(self, j0);
+  f245(self, j0);
   B41:;
   i0 = l64;
   i1 = 255u;
@@ -184769,7 +184862,7 @@ static u32 module_zak_rebuild(module *self, u64 p0, u64 p1, u64 p2, u64 p3, u64 
   i0 = i0 != i1;
   if (i0) {goto B42;}
   j0 = l25;
-  f142(self, j0);
+  f143(self, j0);
   B42:;
   i0 = l66;
   i1 = 255u;
@@ -184778,7 +184871,7 @@ static u32 module_zak_rebuild(module *self, u64 p0, u64 p1, u64 p2, u64 p3, u64 
   i0 = i0 != i1;
   if (i0) {goto B43;}
   j0 = l37;
-  f142(self, j0);
+  f143(self, j0);
   B43:;
   i0 = l67;
   i1 = 255u;
@@ -184787,25 +184880,25 @@ static u32 module_zak_rebuild(module *self, u64 p0, u64 p1, u64 p2, u64 p3, u64 
   i0 = i0 != i1;
   if (i0) {goto B44;}
   j0 = l38;
-  f142(self, j0);
+  f143(self, j0);
   B44:;
   j0 = l15;
   i0 = !(j0);
   if (i0) {goto B45;}
   j0 = l14;
-  f244(self, j0);
+  f245(self, j0);
   B45:;
   j0 = l18;
   i0 = !(j0);
   if (i0) {goto B46;}
   j0 = l16;
-  f244(self, j0);
+  f245(self, j0);
   B46:;
   j0 = l22;
   i0 = !(j0);
   if (i0) {goto B47;}
   j0 = l20;
-  f244(self, j0);
+  f245(self, j0);
   B47:;
   i0 = l60;
   i1 = 255u;
@@ -184814,7 +184907,7 @@ static u32 module_zak_rebuild(module *self, u64 p0, u64 p1, u64 p2, u64 p3, u64 
   i0 = i0 != i1;
   if (i0) {goto B48;}
   j0 = l8;
-  f142(self, j0);
+  f143(self, j0);
   B48:;
   i0 = l61;
   i1 = 255u;
@@ -184823,7 +184916,7 @@ static u32 module_zak_rebuild(module *self, u64 p0, u64 p1, u64 p2, u64 p3, u64 
   i0 = i0 != i1;
   if (i0) {goto B49;}
   j0 = l11;
-  f142(self, j0);
+  f143(self, j0);
   B49:;
   i0 = l62;
   i1 = 255u;
@@ -184839,19 +184932,19 @@ static u32 module_zak_rebuild(module *self, u64 p0, u64 p1, u64 p2, u64 p3, u64 
   i0 = !(j0);
   if (i0) {goto B50;}
   j0 = l14;
-  f244(self, j0);
+  f245(self, j0);
   B50:;
   j0 = l18;
   i0 = !(j0);
   if (i0) {goto B51;}
   j0 = l16;
-  f244(self, j0);
+  f245(self, j0);
   B51:;
   j0 = l22;
   i0 = !(j0);
   if (i0) {goto B52;}
   j0 = l20;
-  f244(self, j0);
+  f245(self, j0);
   B52:;
   i0 = l60;
   i1 = 255u;
@@ -184868,12 +184961,12 @@ static u32 module_zak_rebuild(module *self, u64 p0, u64 p1, u64 p2, u64 p3, u64 
   j0 = i64_load(j0 + 16u);
   l10 = j0;
   j0 = l8;
-  f244(self, j0);
+  f245(self, j0);
   j0 = l10;
   i0 = !(j0);
   if (i0) {goto B53;}
   j0 = p1;
-  f244(self, j0);
+  f245(self, j0);
   B53:;
   i0 = l61;
   i1 = 255u;
@@ -184890,12 +184983,12 @@ static u32 module_zak_rebuild(module *self, u64 p0, u64 p1, u64 p2, u64 p3, u64 
   j0 = i64_load(j0 + 16u);
   l10 = j0;
   j0 = l11;
-  f244(self, j0);
+  f245(self, j0);
   j0 = l10;
   i0 = !(j0);
   if (i0) {goto B54;}
   j0 = l8;
-  f244(self, j0);
+  f245(self, j0);
   B54:;
   i0 = l62;
   i1 = 255u;
@@ -184912,31 +185005,31 @@ static u32 module_zak_rebuild(module *self, u64 p0, u64 p1, u64 p2, u64 p3, u64 
   j0 = i64_load(j0 + 16u);
   l10 = j0;
   j0 = l12;
-  f244(self, j0);
+  f245(self, j0);
   j0 = l10;
   i0 = !(j0);
   if (i0) {goto B17;}
   j0 = l8;
-  f244(self, j0);
+  f245(self, j0);
   goto B17;
   B29:;
   j0 = l28;
   i0 = !(j0);
   if (i0) {goto B55;}
   j0 = l26;
-  f244(self, j0);
+  f245(self, j0);
   B55:;
   j0 = l31;
   i0 = !(j0);
   if (i0) {goto B56;}
   j0 = l29;
-  f244(self, j0);
+  f245(self, j0);
   B56:;
   j0 = l35;
   i0 = !(j0);
   if (i0) {goto B57;}
   j0 = l33;
-  f244(self, j0);
+  f245(self, j0);
   B57:;
   i0 = l64;
   i1 = 255u;
@@ -184953,12 +185046,12 @@ static u32 module_zak_rebuild(module *self, u64 p0, u64 p1, u64 p2, u64 p3, u64 
   j0 = i64_load(j0 + 16u);
   l10 = j0;
   j0 = l25;
-  f244(self, j0);
+  f245(self, j0);
   j0 = l10;
   i0 = !(j0);
   if (i0) {goto B58;}
   j0 = p1;
-  f244(self, j0);
+  f245(self, j0);
   B58:;
   i0 = l66;
   i1 = 255u;
@@ -184975,12 +185068,12 @@ static u32 module_zak_rebuild(module *self, u64 p0, u64 p1, u64 p2, u64 p3, u64 
   j0 = i64_load(j0 + 16u);
   l10 = j0;
   j0 = l37;
-  f244(self, j0);
+  f245(self, j0);
   j0 = l10;
   i0 = !(j0);
   if (i0) {goto B59;}
   j0 = p1;
-  f244(self, j0);
+  f245(self, j0);
   B59:;
   i0 = l67;
   i1 = 255u;
@@ -184997,30 +185090,30 @@ static u32 module_zak_rebuild(module *self, u64 p0, u64 p1, u64 p2, u64 p3, u64 
   j0 = i64_load(j0 + 16u);
   l10 = j0;
   j0 = l38;
-  f244(self, j0);
+  f245(self, j0);
   j0 = l10;
   i0 = !(j0);
   if (i0) {goto B60;}
   j0 = p1;
-  f244(self, j0);
+  f245(self, j0);
   B60:;
   j0 = l15;
   i0 = !(j0);
   if (i0) {goto B61;}
   j0 = l14;
-  f244(self, j0);
+  f245(self, j0);
   B61:;
   j0 = l18;
   i0 = !(j0);
   if (i0) {goto B62;}
   j0 = l16;
-  f244(self, j0);
+  f245(self, j0);
   B62:;
   j0 = l22;
   i0 = !(j0);
   if (i0) {goto B63;}
   j0 = l20;
-  f244(self, j0);
+  f245(self, j0);
   B63:;
   i0 = l60;
   i1 = 255u;
@@ -185037,12 +185130,12 @@ static u32 module_zak_rebuild(module *self, u64 p0, u64 p1, u64 p2, u64 p3, u64 
   j0 = i64_load(j0 + 16u);
   l10 = j0;
   j0 = l8;
-  f244(self, j0);
+  f245(self, j0);
   j0 = l10;
   i0 = !(j0);
   if (i0) {goto B64;}
   j0 = p1;
-  f244(self, j0);
+  f245(self, j0);
   B64:;
   i0 = l61;
   i1 = 255u;
@@ -185059,12 +185152,12 @@ static u32 module_zak_rebuild(module *self, u64 p0, u64 p1, u64 p2, u64 p3, u64 
   j0 = i64_load(j0 + 16u);
   l10 = j0;
   j0 = l11;
-  f244(self, j0);
+  f245(self, j0);
   j0 = l10;
   i0 = !(j0);
   if (i0) {goto B65;}
   j0 = l8;
-  f244(self, j0);
+  f245(self, j0);
   B65:;
   i0 = l62;
   i1 = 255u;
@@ -185081,12 +185174,12 @@ static u32 module_zak_rebuild(module *self, u64 p0, u64 p1, u64 p2, u64 p3, u64 
   j0 = i64_load(j0 + 16u);
   l10 = j0;
   j0 = l12;
-  f244(self, j0);
+  f245(self, j0);
   j0 = l10;
   i0 = !(j0);
   if (i0) {goto B66;}
   j0 = l8;
-  f244(self, j0);
+  f245(self, j0);
   B66:;
   i0 = l65;
   l58 = i0;
@@ -185512,7 +185605,7 @@ static u32 module_zak_rebuild(module *self, u64 p0, u64 p1, u64 p2, u64 p3, u64 
   j3 = l9;
   i3 = (u32)(j3);
   j3 = i64_load(j3);
-  f151(self, j0, j1, j2, j3);
+  f152(self, j0, j1, j2, j3);
   j0 = l5;
   i0 = (u32)(j0);
   j1 = l5;
@@ -185752,7 +185845,7 @@ static u32 module_zak_rebuild(module *self, u64 p0, u64 p1, u64 p2, u64 p3, u64 
   j3 = l9;
   i3 = (u32)(j3);
   j3 = i64_load(j3);
-  f151(self, j0, j1, j2, j3);
+  f152(self, j0, j1, j2, j3);
   j0 = l5;
   i0 = (u32)(j0);
   j1 = l10;
@@ -185790,7 +185883,7 @@ static u32 module_zak_rebuild(module *self, u64 p0, u64 p1, u64 p2, u64 p3, u64 
   j3 = l9;
   i3 = (u32)(j3);
   j3 = i64_load(j3);
-  f151(self, j0, j1, j2, j3);
+  f152(self, j0, j1, j2, j3);
   j0 = l5;
   i0 = (u32)(j0);
   i0 = i32_load8_u(j0 + 13056u);
@@ -185859,7 +185952,7 @@ static u32 module_zak_rebuild(module *self, u64 p0, u64 p1, u64 p2, u64 p3, u64 
   i6 = 8u;
   i5 >>= (i6 & 31);
   i4 |= i5;
-  f152(self, j0, j1, j2, i3, i4); m = self->memory; if (NEVER(self->is_broken)) return ZAK_BROKEN;
+  f153(self, j0, j1, j2, i3, i4); m = self->memory; if (NEVER(self->is_broken)) return ZAK_BROKEN;
   j0 = l5;
   i0 = (u32)(j0);
   i0 = i32_load8_u(j0 + 8u);
@@ -185922,19 +186015,19 @@ static u32 module_zak_rebuild(module *self, u64 p0, u64 p1, u64 p2, u64 p3, u64 
   i0 = !(j0);
   if (i0) {goto B68;}
   j0 = l10;
-  f244(self, j0);
+  f245(self, j0);
   B68:;
   j0 = p4;
   i0 = !(j0);
   if (i0) {goto B69;}
   j0 = p2;
-  f244(self, j0);
+  f245(self, j0);
   B69:;
   j0 = p1;
   i0 = !(j0);
   if (i0) {goto B70;}
   j0 = p3;
-  f244(self, j0);
+  f245(self, j0);
   B70:;
   i0 = l57;
   i1 = 255u;
@@ -185951,12 +186044,12 @@ static u32 module_zak_rebuild(module *self, u64 p0, u64 p1, u64 p2, u64 p3, u64 
   j0 = i64_load(j0 + 16u);
   l10 = j0;
   j0 = l12;
-  f244(self, j0);
+  f245(self, j0);
   j0 = l10;
   i0 = !(j0);
   if (i0) {goto B71;}
   j0 = p1;
-  f244(self, j0);
+  f245(self, j0);
   B71:;
   i0 = l56;
   i1 = 255u;
@@ -185973,12 +186066,12 @@ static u32 module_zak_rebuild(module *self, u64 p0, u64 p1, u64 p2, u64 p3, u64 
   j0 = i64_load(j0 + 16u);
   l10 = j0;
   j0 = l11;
-  f244(self, j0);
+  f245(self, j0);
   j0 = l10;
   i0 = !(j0);
   if (i0) {goto B72;}
   j0 = l12;
-  f244(self, j0);
+  f245(self, j0);
   B72:;
   i0 = l55;
   i1 = 255u;
@@ -185995,12 +186088,12 @@ static u32 module_zak_rebuild(module *self, u64 p0, u64 p1, u64 p2, u64 p3, u64 
   j0 = i64_load(j0 + 16u);
   l10 = j0;
   j0 = l8;
-  f244(self, j0);
+  f245(self, j0);
   j0 = l10;
   i0 = !(j0);
   if (i0) {goto B16;}
   j0 = l11;
-  f244(self, j0);
+  f245(self, j0);
   goto B16;
   B67:;
   j0 = l5;
@@ -186115,7 +186208,7 @@ static u32 module_zak_rebuild(module *self, u64 p0, u64 p1, u64 p2, u64 p3, u64 
   i6 >>= (i7 & 31);
   i5 |= i6;
   i4 += i5;
-  f152(self, j0, j1, j2, i3, i4); m = self->memory; if (NEVER(self->is_broken)) return ZAK_BROKEN;
+  f153(self, j0, j1, j2, i3, i4); m = self->memory; if (NEVER(self->is_broken)) return ZAK_BROKEN;
   j0 = l5;
   i0 = (u32)(j0);
   i0 = i32_load8_u(j0 + 25968u);
@@ -186203,7 +186296,7 @@ static u32 module_zak_rebuild(module *self, u64 p0, u64 p1, u64 p2, u64 p3, u64 
   j2 += j3;
   i3 = 1u;
   i4 = 0u;
-  f152(self, j0, j1, j2, i3, i4); m = self->memory; if (NEVER(self->is_broken)) return ZAK_BROKEN;
+  f153(self, j0, j1, j2, i3, i4); m = self->memory; if (NEVER(self->is_broken)) return ZAK_BROKEN;
   j0 = l5;
   i0 = (u32)(j0);
   i0 = i32_load8_u(j0 + 30192u);
@@ -186253,7 +186346,7 @@ static u32 module_zak_rebuild(module *self, u64 p0, u64 p1, u64 p2, u64 p3, u64 
   goto B24;
   B27:;
   j0 = l12;
-  f142(self, j0);
+  f143(self, j0);
   i0 = l54;
   l58 = i0;
   goto B17;
@@ -186326,19 +186419,19 @@ static u32 module_zak_rebuild(module *self, u64 p0, u64 p1, u64 p2, u64 p3, u64 
   i0 = !(j0);
   if (i0) {goto B77;}
   j0 = l10;
-  f244(self, j0);
+  f245(self, j0);
   B77:;
   j0 = l14;
   i0 = !(j0);
   if (i0) {goto B78;}
   j0 = l20;
-  f244(self, j0);
+  f245(self, j0);
   B78:;
   j0 = l22;
   i0 = !(j0);
   if (i0) {goto B79;}
   j0 = l16;
-  f244(self, j0);
+  f245(self, j0);
   B79:;
   i0 = l59;
   i1 = 255u;
@@ -186355,12 +186448,12 @@ static u32 module_zak_rebuild(module *self, u64 p0, u64 p1, u64 p2, u64 p3, u64 
   j0 = i64_load(j0 + 16u);
   l10 = j0;
   j0 = l18;
-  f244(self, j0);
+  f245(self, j0);
   j0 = l10;
   i0 = !(j0);
   if (i0) {goto B80;}
   j0 = l22;
-  f244(self, j0);
+  f245(self, j0);
   B80:;
   i0 = l58;
   i1 = 255u;
@@ -186377,12 +186470,12 @@ static u32 module_zak_rebuild(module *self, u64 p0, u64 p1, u64 p2, u64 p3, u64 
   j0 = i64_load(j0 + 16u);
   l10 = j0;
   j0 = l12;
-  f244(self, j0);
+  f245(self, j0);
   j0 = l10;
   i0 = !(j0);
   if (i0) {goto B81;}
   j0 = l18;
-  f244(self, j0);
+  f245(self, j0);
   B81:;
   i0 = l57;
   i1 = 255u;
@@ -186399,12 +186492,12 @@ static u32 module_zak_rebuild(module *self, u64 p0, u64 p1, u64 p2, u64 p3, u64 
   j0 = i64_load(j0 + 16u);
   l10 = j0;
   j0 = l8;
-  f244(self, j0);
+  f245(self, j0);
   j0 = l10;
   i0 = !(j0);
   if (i0) {goto B82;}
   j0 = l12;
-  f244(self, j0);
+  f245(self, j0);
   B82:;
   i0 = l56;
   i0 = !(i0);
@@ -186461,19 +186554,19 @@ static u32 module_zak_rebuild(module *self, u64 p0, u64 p1, u64 p2, u64 p3, u64 
   i0 = !(j0);
   if (i0) {goto B83;}
   j0 = l10;
-  f244(self, j0);
+  f245(self, j0);
   B83:;
   j0 = l14;
   i0 = !(j0);
   if (i0) {goto B84;}
   j0 = l20;
-  f244(self, j0);
+  f245(self, j0);
   B84:;
   j0 = l22;
   i0 = !(j0);
   if (i0) {goto B85;}
   j0 = l16;
-  f244(self, j0);
+  f245(self, j0);
   B85:;
   j0 = l12;
   j1 = 65535ull;
@@ -186494,12 +186587,12 @@ static u32 module_zak_rebuild(module *self, u64 p0, u64 p1, u64 p2, u64 p3, u64 
   j0 = i64_load(j0 + 16u);
   l12 = j0;
   j0 = l15;
-  f244(self, j0);
+  f245(self, j0);
   j0 = l12;
   i0 = !(j0);
   if (i0) {goto B86;}
   j0 = l22;
-  f244(self, j0);
+  f245(self, j0);
   B86:;
   j0 = l10;
   j1 = 16ull;
@@ -186520,12 +186613,12 @@ static u32 module_zak_rebuild(module *self, u64 p0, u64 p1, u64 p2, u64 p3, u64 
   j0 = i64_load(j0 + 16u);
   l12 = j0;
   j0 = l13;
-  f244(self, j0);
+  f245(self, j0);
   j0 = l12;
   i0 = !(j0);
   if (i0) {goto B87;}
   j0 = l15;
-  f244(self, j0);
+  f245(self, j0);
   B87:;
   j0 = l8;
   j1 = 18446744069414584320ull;
@@ -186550,12 +186643,12 @@ static u32 module_zak_rebuild(module *self, u64 p0, u64 p1, u64 p2, u64 p3, u64 
   j0 = i64_load(j0 + 16u);
   l12 = j0;
   j0 = l11;
-  f244(self, j0);
+  f245(self, j0);
   j0 = l12;
   i0 = !(j0);
   if (i0) {goto B88;}
   j0 = l13;
-  f244(self, j0);
+  f245(self, j0);
   B88:;
   j0 = l10;
   j1 = l8;
@@ -186723,7 +186816,7 @@ static u32 module_zak_rebuild(module *self, u64 p0, u64 p1, u64 p2, u64 p3, u64 
   i0 = !(j0);
   if (i0) {goto B15;}
   j0 = l13;
-  f244(self, j0);
+  f245(self, j0);
   goto B15;
   B17:;
   i0 = l58;
@@ -186816,7 +186909,7 @@ static u32 module_zak_restore(module *self, u64 p0, u64 p1, u64 p2) {
   j0 = p1;
   j1 = l4;
   j2 = p2;
-  i0 = f163(self, j0, j1, j2); m = self->memory; if (NEVER(self->is_broken)) return ZAK_BROKEN;
+  i0 = f164(self, j0, j1, j2); m = self->memory; if (NEVER(self->is_broken)) return ZAK_BROKEN;
   l3 = i0;
   j0 = p0;
   i0 = (u32)(j0);
@@ -186898,7 +186991,7 @@ static u32 module_zak_restore_fixed(module *self, u64 p0, u64 p1, u64 p2) {
   i0 = i32_load(j0);
   j1 = p1;
   j2 = p2;
-  i1 = f166(self, j1, j2); if (NEVER(self->is_broken)) return ZAK_BROKEN;
+  i1 = f167(self, j1, j2); if (NEVER(self->is_broken)) return ZAK_BROKEN;
   i0 = i0 != i1;
   if (i0) {goto B2;}
   j0 = p2;
@@ -186919,7 +187012,7 @@ static u32 module_zak_restore_fixed(module *self, u64 p0, u64 p1, u64 p2) {
   j0 = l4;
   j1 = p1;
   j2 = p2;
-  i0 = f163(self, j0, j1, j2); m = self->memory; if (NEVER(self->is_broken)) return ZAK_BROKEN;
+  i0 = f164(self, j0, j1, j2); m = self->memory; if (NEVER(self->is_broken)) return ZAK_BROKEN;
   l3 = i0;
   B2:;
   j0 = p0;
@@ -187231,7 +187324,7 @@ static u32 module_zak_run(module *self, u64 p0, u64 p1, u64 p2, u64 p3, u64 p4, 
   j1 = 4616ull;
   j0 += j1;
   j1 = 1ull;
-  f138(self, j0, j1); if (NEVER(self->is_broken)) return ZAK_BROKEN;
+  f139(self, j0, j1); if (NEVER(self->is_broken)) return ZAK_BROKEN;
   j0 = l8;
   i0 = (u32)(j0);
   j1 = l8;
@@ -187303,7 +187396,7 @@ static u32 module_zak_run(module *self, u64 p0, u64 p1, u64 p2, u64 p3, u64 p4, 
   j5 = 4472ull;
   j4 += j5;
   j5 = 18446744073709551615ull;
-  f172(self, j0, j1, j2, j3, j4, j5); m = self->memory; if (NEVER(self->is_broken)) return ZAK_BROKEN;
+  f173(self, j0, j1, j2, j3, j4, j5); m = self->memory; if (NEVER(self->is_broken)) return ZAK_BROKEN;
   j0 = l8;
   i0 = (u32)(j0);
   j0 = i64_load(j0 + 4528u);
@@ -187340,19 +187433,19 @@ static u32 module_zak_run(module *self, u64 p0, u64 p1, u64 p2, u64 p3, u64 p4, 
   j0 = l8;
   i0 = (u32)(j0);
   j0 = i64_load(j0 + 2312u);
-  f244(self, j0);
+  f245(self, j0);
   B7:;
   j0 = p3;
   i0 = !(j0);
   if (i0) {goto B8;}
   j0 = l9;
-  f244(self, j0);
+  f245(self, j0);
   B8:;
   j0 = p2;
   i0 = !(j0);
   if (i0) {goto B9;}
   j0 = p1;
-  f244(self, j0);
+  f245(self, j0);
   B9:;
   j0 = l8;
   i0 = (u32)(j0);
@@ -187388,12 +187481,12 @@ static u32 module_zak_run(module *self, u64 p0, u64 p1, u64 p2, u64 p3, u64 p4, 
   j0 = i64_load(j0 + 16u);
   l9 = j0;
   j0 = p1;
-  f244(self, j0);
+  f245(self, j0);
   j0 = l9;
   i0 = !(j0);
   if (i0) {goto B10;}
   j0 = l10;
-  f244(self, j0);
+  f245(self, j0);
   B10:;
   i0 = l14;
   i1 = 255u;
@@ -187410,12 +187503,12 @@ static u32 module_zak_run(module *self, u64 p0, u64 p1, u64 p2, u64 p3, u64 p4, 
   j0 = i64_load(j0 + 16u);
   p1 = j0;
   j0 = p3;
-  f244(self, j0);
+  f245(self, j0);
   j0 = p1;
   i0 = !(j0);
   if (i0) {goto B11;}
   j0 = l9;
-  f244(self, j0);
+  f245(self, j0);
   B11:;
   i0 = l12;
   i1 = 255u;
@@ -187432,12 +187525,12 @@ static u32 module_zak_run(module *self, u64 p0, u64 p1, u64 p2, u64 p3, u64 p4, 
   j0 = i64_load(j0 + 16u);
   p3 = j0;
   j0 = p2;
-  f244(self, j0);
+  f245(self, j0);
   j0 = p3;
   i0 = !(j0);
   if (i0) {goto B12;}
   j0 = p1;
-  f244(self, j0);
+  f245(self, j0);
   B12:;
   i0 = l11;
   i1 = 255u;
@@ -187489,12 +187582,12 @@ static u32 module_zak_run(module *self, u64 p0, u64 p1, u64 p2, u64 p3, u64 p4, 
   j0 = i64_load(j0 + 16u);
   p3 = j0;
   j0 = p2;
-  f244(self, j0);
+  f245(self, j0);
   j0 = p3;
   i0 = !(j0);
   if (i0) {goto B13;}
   j0 = p1;
-  f244(self, j0);
+  f245(self, j0);
   B13:;
   i0 = l12;
   i1 = 255u;
@@ -187511,12 +187604,12 @@ static u32 module_zak_run(module *self, u64 p0, u64 p1, u64 p2, u64 p3, u64 p4, 
   j0 = i64_load(j0 + 16u);
   p2 = j0;
   j0 = l10;
-  f244(self, j0);
+  f245(self, j0);
   j0 = p2;
   i0 = !(j0);
   if (i0) {goto B14;}
   j0 = p3;
-  f244(self, j0);
+  f245(self, j0);
   B14:;
   i0 = l11;
   i1 = 255u;
@@ -187533,12 +187626,12 @@ static u32 module_zak_run(module *self, u64 p0, u64 p1, u64 p2, u64 p3, u64 p4, 
   j0 = i64_load(j0 + 16u);
   p2 = j0;
   j0 = l9;
-  f244(self, j0);
+  f245(self, j0);
   j0 = p2;
   i0 = !(j0);
   if (i0) {goto B1;}
   j0 = p3;
-  f244(self, j0);
+  f245(self, j0);
   goto B1;
   B5:;
   j0 = p4;
@@ -187678,7 +187771,7 @@ static u32 module_zak_run(module *self, u64 p0, u64 p1, u64 p2, u64 p3, u64 p4, 
   i0 = !(j0);
   if (i0) {goto B0;}
   j0 = p7;
-  f244(self, j0);
+  f245(self, j0);
   goto B0;
   B3:;
   j0 = p2;
@@ -187700,7 +187793,7 @@ static u32 module_zak_run(module *self, u64 p0, u64 p1, u64 p2, u64 p3, u64 p4, 
   j0 = l8;
   i0 = (u32)(j0);
   j0 = i64_load(j0);
-  f244(self, j0);
+  f245(self, j0);
   B20:;
   i0 = 22u;
   l11 = i0;
@@ -187956,7 +188049,7 @@ static u32 module_zak_run_on(module *self, u64 p0, u64 p1, u64 p2, u32 p3, u32 p
   j2 = 1ull;
   j1 += j2;
   p1 = j1;
-  f138(self, j0, j1); if (NEVER(self->is_broken)) return ZAK_BROKEN;
+  f139(self, j0, j1); if (NEVER(self->is_broken)) return ZAK_BROKEN;
   j0 = l10;
   i0 = (u32)(j0);
   j1 = l10;
@@ -188027,7 +188120,7 @@ static u32 module_zak_run_on(module *self, u64 p0, u64 p1, u64 p2, u32 p3, u32 p
   j4 = l10;
   i5 = p4;
   j5 = (u64)(i5);
-  f172(self, j0, j1, j2, j3, j4, j5); m = self->memory; if (NEVER(self->is_broken)) return ZAK_BROKEN;
+  f173(self, j0, j1, j2, j3, j4, j5); m = self->memory; if (NEVER(self->is_broken)) return ZAK_BROKEN;
   j0 = l10;
   i0 = (u32)(j0);
   i0 = i32_load8_u(j0 + 80u);
@@ -188200,7 +188293,7 @@ static u32 module_zak_run_on(module *self, u64 p0, u64 p1, u64 p2, u32 p3, u32 p
   i0 = !(j0);
   if (i0) {goto B2;}
   j0 = p7;
-  f244(self, j0);
+  f245(self, j0);
   goto B2;
   B4:;
   i0 = 23u;
@@ -188213,7 +188306,7 @@ static u32 module_zak_run_on(module *self, u64 p0, u64 p1, u64 p2, u32 p3, u32 p
   j0 = l10;
   i0 = (u32)(j0);
   j0 = i64_load(j0 + 40u);
-  f244(self, j0);
+  f245(self, j0);
   goto B2;
   B3:;
   j0 = l10;
@@ -188396,7 +188489,7 @@ static u32 module_zak_save(module *self, u64 p0, u64 p1, u64 p2, u64 p3) {
   i4 = !(j4);
   j2 = i4 ? j2 : j3;
   j1 += j2;
-  f160(self, j0, j1); if (NEVER(self->is_broken)) return ZAK_BROKEN;
+  f161(self, j0, j1); if (NEVER(self->is_broken)) return ZAK_BROKEN;
   i0 = 0u;
   l4 = i0;
   B4:;
@@ -188507,7 +188600,7 @@ static u32 module_zak_save_fixed(module *self, u64 p0, u64 p1, u64 p2) {
   j2 = i4 ? j2 : j3;
   j1 += j2;
   p1 = j1;
-  f160(self, j0, j1); if (NEVER(self->is_broken)) return ZAK_BROKEN;
+  f161(self, j0, j1); if (NEVER(self->is_broken)) return ZAK_BROKEN;
   j0 = p1;
   j1 = p2;
   j2 = 18446744073709551612ull;
@@ -188538,7 +188631,7 @@ static u32 module_zak_save_fixed(module *self, u64 p0, u64 p1, u64 p2) {
   i0 = (u32)(j0);
   j1 = p1;
   j2 = p2;
-  i1 = f166(self, j1, j2); if (NEVER(self->is_broken)) return ZAK_BROKEN;
+  i1 = f167(self, j1, j2); if (NEVER(self->is_broken)) return ZAK_BROKEN;
   i32_store(j0, i1);
   i0 = 0u;
   l3 = i0;
@@ -188716,7 +188809,7 @@ static u32 module_zak_screen_cell(module *self, u64 p0, u32 p1, u32 p2, u32 p3, 
   j2 = l6;
   j3 = 2072ull;
   j2 += j3;
-  f173(self, j0, j1, j2); m = self->memory; if (NEVER(self->is_broken)) return ZAK_BROKEN;
+  f174(self, j0, j1, j2); m = self->memory; if (NEVER(self->is_broken)) return ZAK_BROKEN;
   j0 = l5;
   i0 = (u32)(j0);
   i0 = i32_load8_u(j0 + 8u);
@@ -188838,19 +188931,19 @@ static u32 module_zak_screen_cell(module *self, u64 p0, u32 p1, u32 p2, u32 p3, 
   i0 = !(j0);
   if (i0) {goto B6;}
   j0 = l8;
-  f244(self, j0);
+  f245(self, j0);
   B6:;
   j0 = l10;
   i0 = !(j0);
   if (i0) {goto B7;}
   j0 = l11;
-  f244(self, j0);
+  f245(self, j0);
   B7:;
   j0 = p4;
   i0 = !(j0);
   if (i0) {goto B2;}
   j0 = l9;
-  f244(self, j0);
+  f245(self, j0);
   B2:;
   j0 = p0;
   i0 = (u32)(j0);
@@ -188929,7 +189022,7 @@ static u32 module_zak_screen_cursor(module *self, u64 p0, u32 p1, u64 p2) {
   j2 = l4;
   j3 = 2072ull;
   j2 += j3;
-  f173(self, j0, j1, j2); m = self->memory; if (NEVER(self->is_broken)) return ZAK_BROKEN;
+  f174(self, j0, j1, j2); m = self->memory; if (NEVER(self->is_broken)) return ZAK_BROKEN;
   j0 = l3;
   i0 = (u32)(j0);
   i0 = i32_load8_u(j0);
@@ -189001,7 +189094,7 @@ static u32 module_zak_screen_cursor(module *self, u64 p0, u32 p1, u64 p2) {
   j0 = l3;
   i0 = (u32)(j0);
   j0 = i64_load(j0 + 936u);
-  f244(self, j0);
+  f245(self, j0);
   B6:;
   j0 = l3;
   i0 = (u32)(j0);
@@ -189011,7 +189104,7 @@ static u32 module_zak_screen_cursor(module *self, u64 p0, u32 p1, u64 p2) {
   j0 = l3;
   i0 = (u32)(j0);
   j0 = i64_load(j0 + 960u);
-  f244(self, j0);
+  f245(self, j0);
   B7:;
   j0 = l3;
   i0 = (u32)(j0);
@@ -189021,7 +189114,7 @@ static u32 module_zak_screen_cursor(module *self, u64 p0, u32 p1, u64 p2) {
   j0 = l3;
   i0 = (u32)(j0);
   j0 = i64_load(j0 + 1792u);
-  f244(self, j0);
+  f245(self, j0);
   B2:;
   j0 = p0;
   i0 = (u32)(j0);
@@ -189104,7 +189197,7 @@ static u32 module_zak_screen_pixel(module *self, u64 p0, u32 p1, u32 p2, u32 p3,
   j2 = l6;
   j3 = 2072ull;
   j2 += j3;
-  f173(self, j0, j1, j2); m = self->memory; if (NEVER(self->is_broken)) return ZAK_BROKEN;
+  f174(self, j0, j1, j2); m = self->memory; if (NEVER(self->is_broken)) return ZAK_BROKEN;
   j0 = l5;
   i0 = (u32)(j0);
   i0 = i32_load8_u(j0 + 8u);
@@ -189221,19 +189314,19 @@ static u32 module_zak_screen_pixel(module *self, u64 p0, u32 p1, u32 p2, u32 p3,
   j0 = l5;
   i0 = (u32)(j0);
   j0 = i64_load(j0 + 40u);
-  f244(self, j0);
+  f245(self, j0);
   B6:;
   j0 = l9;
   i0 = !(j0);
   if (i0) {goto B7;}
   j0 = l7;
-  f244(self, j0);
+  f245(self, j0);
   B7:;
   j0 = p4;
   i0 = !(j0);
   if (i0) {goto B2;}
   j0 = l10;
-  f244(self, j0);
+  f245(self, j0);
   B2:;
   j0 = p0;
   i0 = (u32)(j0);
@@ -189312,7 +189405,7 @@ static u32 module_zak_screen_read(module *self, u64 p0, u64 p1) {
   j2 = l3;
   j3 = 2072ull;
   j2 += j3;
-  f173(self, j0, j1, j2); m = self->memory; if (NEVER(self->is_broken)) return ZAK_BROKEN;
+  f174(self, j0, j1, j2); m = self->memory; if (NEVER(self->is_broken)) return ZAK_BROKEN;
   j0 = l2;
   i0 = (u32)(j0);
   i0 = i32_load8_u(j0);
@@ -189460,19 +189553,19 @@ static u32 module_zak_screen_read(module *self, u64 p0, u64 p1) {
   i0 = !(j0);
   if (i0) {goto B7;}
   j0 = l9;
-  f244(self, j0);
+  f245(self, j0);
   B7:;
   j0 = l6;
   i0 = !(j0);
   if (i0) {goto B8;}
   j0 = l7;
-  f244(self, j0);
+  f245(self, j0);
   B8:;
   j0 = l4;
   i0 = !(j0);
   if (i0) {goto B2;}
   j0 = l5;
-  f244(self, j0);
+  f245(self, j0);
   B2:;
   j0 = p0;
   i0 = (u32)(j0);
@@ -189535,7 +189628,7 @@ static u32 module_zak_show_bda(module *self, u64 p0, u64 p1, u64 p2, u64 p3) {
   j2 += j3;
   j3 = p2;
   j4 = p3;
-  i0 = f176(self, j0, j1, j2, j3, j4); m = self->memory; if (NEVER(self->is_broken)) return ZAK_BROKEN;
+  i0 = f177(self, j0, j1, j2, j3, j4); m = self->memory; if (NEVER(self->is_broken)) return ZAK_BROKEN;
   l5 = i0;
   j0 = l4;
   j1 = 16ull;
@@ -189581,7 +189674,7 @@ static u32 module_zak_show_beam(module *self, u64 p0, u64 p1, u64 p2, u64 p3) {
   j2 += j3;
   j3 = p2;
   j4 = p3;
-  i0 = f176(self, j0, j1, j2, j3, j4); m = self->memory; if (NEVER(self->is_broken)) return ZAK_BROKEN;
+  i0 = f177(self, j0, j1, j2, j3, j4); m = self->memory; if (NEVER(self->is_broken)) return ZAK_BROKEN;
   l5 = i0;
   j0 = l4;
   j1 = 16ull;
@@ -189627,7 +189720,7 @@ static u32 module_zak_show_cells(module *self, u64 p0, u64 p1, u64 p2, u64 p3) {
   j2 += j3;
   j3 = p2;
   j4 = p3;
-  i0 = f176(self, j0, j1, j2, j3, j4); m = self->memory; if (NEVER(self->is_broken)) return ZAK_BROKEN;
+  i0 = f177(self, j0, j1, j2, j3, j4); m = self->memory; if (NEVER(self->is_broken)) return ZAK_BROKEN;
   l5 = i0;
   j0 = l4;
   j1 = 16ull;
@@ -189672,7 +189765,7 @@ static u32 module_zak_show_dac(module *self, u64 p0, u32 p1, u64 p2, u64 p3, u64
   j2 += j3;
   j3 = p3;
   j4 = p4;
-  i0 = f176(self, j0, j1, j2, j3, j4); m = self->memory; if (NEVER(self->is_broken)) return ZAK_BROKEN;
+  i0 = f177(self, j0, j1, j2, j3, j4); m = self->memory; if (NEVER(self->is_broken)) return ZAK_BROKEN;
   p1 = i0;
   j0 = l5;
   j1 = 16ull;
@@ -189718,7 +189811,7 @@ static u32 module_zak_show_latches(module *self, u64 p0, u64 p1, u64 p2, u64 p3)
   j2 += j3;
   j3 = p2;
   j4 = p3;
-  i0 = f176(self, j0, j1, j2, j3, j4); m = self->memory; if (NEVER(self->is_broken)) return ZAK_BROKEN;
+  i0 = f177(self, j0, j1, j2, j3, j4); m = self->memory; if (NEVER(self->is_broken)) return ZAK_BROKEN;
   l5 = i0;
   j0 = l4;
   j1 = 16ull;
@@ -189802,7 +189895,7 @@ static u32 module_zak_show_plane(module *self, u64 p0, u32 p1, u32 p2, u32 p3, u
   j2 += j3;
   j3 = p5;
   j4 = p6;
-  i0 = f176(self, j0, j1, j2, j3, j4); m = self->memory; if (NEVER(self->is_broken)) return ZAK_BROKEN;
+  i0 = f177(self, j0, j1, j2, j3, j4); m = self->memory; if (NEVER(self->is_broken)) return ZAK_BROKEN;
   l8 = i0;
   B0:;
   j0 = l7;
@@ -189845,7 +189938,7 @@ static u32 module_zak_show_regs(module *self, u64 p0, u64 p1, u64 p2, u64 p3) {
   j2 += j3;
   j3 = p2;
   j4 = p3;
-  i0 = f176(self, j0, j1, j2, j3, j4); m = self->memory; if (NEVER(self->is_broken)) return ZAK_BROKEN;
+  i0 = f177(self, j0, j1, j2, j3, j4); m = self->memory; if (NEVER(self->is_broken)) return ZAK_BROKEN;
   l5 = i0;
   j0 = l4;
   j1 = 16ull;
@@ -190620,7 +190713,7 @@ static u64 module_page_take(module *self, u64 p0) {
   j0 = l1;
   j1 = p0;
   j2 = 16ull;
-  f241(self, j0, j1, j2); m = self->memory; if (NEVER(self->is_broken)) return 0;
+  f242(self, j0, j1, j2); m = self->memory; if (NEVER(self->is_broken)) return 0;
   j0 = l1;
   i0 = (u32)(j0);
   j0 = i64_load(j0);
@@ -190645,12 +190738,12 @@ static u32 module_page_give(module *self, u64 p0) {
   u32 i0;
   u64 j0;
   j0 = p0;
-  f244(self, j0);
+  f245(self, j0);
   i0 = 0u;
   return i0;
 }
 
-static void f241(module *self, u64 p0, u64 p1, u64 p2) {
+static void f242(module *self, u64 p0, u64 p1, u64 p2) {
   u64 l3 = 0;
   u8 *m = self->memory;
   u32 i0, i1;
@@ -190662,7 +190755,7 @@ static void f241(module *self, u64 p0, u64 p1, u64 p2) {
   i0 = j0 > j1;
   if (i0) {goto B0;}
   j0 = p1;
-  j0 = f242(self, j0); m = self->memory; if (NEVER(self->is_broken)) return;
+  j0 = f243(self, j0); m = self->memory; if (NEVER(self->is_broken)) return;
   l3 = j0;
   B0:;
   j0 = p0;
@@ -190678,7 +190771,7 @@ static void f241(module *self, u64 p0, u64 p1, u64 p2) {
   i64_store(j0, j1);
 }
 
-static u64 f242(module *self, u64 p0) {
+static u64 f243(module *self, u64 p0) {
   u32 l8 = 0;
   u64 l1 = 0, l2 = 0, l3 = 0, l4 = 0, l5 = 0, l6 = 0, l7 = 0;
   u8 *m = self->memory;
@@ -191153,7 +191246,7 @@ static u64 f242(module *self, u64 p0) {
   return j0;
 }
 
-static void f243(module *self, u64 p0, u64 p1, u64 p2, u64 p3, u64 p4) {
+static void f244(module *self, u64 p0, u64 p1, u64 p2, u64 p3, u64 p4) {
   u32 l8 = 0;
   u64 l5 = 0, l6 = 0, l7 = 0;
   u8 *m = self->memory;
@@ -191189,7 +191282,7 @@ static void f243(module *self, u64 p0, u64 p1, u64 p2, u64 p3, u64 p4) {
   i0 = j0 > j1;
   if (i0) {goto B1;}
   j0 = p3;
-  j0 = f242(self, j0); m = self->memory; if (NEVER(self->is_broken)) return;
+  j0 = f243(self, j0); m = self->memory; if (NEVER(self->is_broken)) return;
   l7 = j0;
   i0 = !(j0);
   i0 = !(i0);
@@ -191326,7 +191419,7 @@ static void f243(module *self, u64 p0, u64 p1, u64 p2, u64 p3, u64 p4) {
   Bfunc:;
 }
 
-static void f244(module *self, u64 p0) {
+static void f245(module *self, u64 p0) {
   u32 l6 = 0;
   u64 l1 = 0, l2 = 0, l3 = 0, l4 = 0, l5 = 0;
   u8 *m = self->memory;
