@@ -57,6 +57,6 @@ export const FIRST_STATE = 265086, MOST_STATE = 7342974;
 /** Bytes of a plane. */
 export const PLANE_SIZE = 65536;
 /** Bytes of a `zak_card` in the module's memory. */
-export const CARD_SIZE = 16;
+export const CARD_SIZE = 24;
 /** The interface that this package is made for: 65,536 times its major number, plus its minor number. */
 export const API_VERSION = 0x10006;

@@ -42,7 +42,7 @@ HasDotBytes Ragged size_old size old new status =
     (size ≡ size_old) × ((new ≡ old) × (status ≡ ragged_status))
 HasDotBytes reply size_old size old new status = ⊥
 
--- the output has the picture of an open card's frame, a word for each dot, or only its size if
+-- the output has the picture of an open card's frame, three bytes for each dot, or only its size if
 -- there was no room
 abbrev pub DrawsBytes : HandleState → Size → Size → List ℕ → List ℕ → ℕ → Type 0
 DrawsBytes card size_old size old new status = card.is_open ≡ true →
@@ -60,7 +60,7 @@ HasDotWords Ragged pitch size_old size old new status =
     (size ≡ size_old) × ((new ≡ old) × (status ≡ ragged_status))
 HasDotWords reply pitch size_old size old new status = ⊥
 
--- the output has the picture of an open card's frame, three bytes for each dot, or only its size if
+-- the output has the picture of an open card's frame, a word for each dot, or only its size if
 -- there was no room
 abbrev pub DrawsWords : HandleState → ℕ → Size → Size → List ℕ → List ℕ → ℕ → Type 0
 DrawsWords card pitch size_old size old new status = card.is_open ≡ true →

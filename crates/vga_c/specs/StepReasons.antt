@@ -1,5 +1,5 @@
 -- Why a step of a script is refused, as the caller gets it.
-use Rattle.std.specs.Prelude.{◌≡◌, ◌⊎◌, ◌≤◌, ℕ, Bool, true, false, Option, None, Some}
+use Rattle.std.specs.Prelude.{◌≡◌, ◌⊎◌, ◌≤◌, ℕ, Bool, true, false, None, Some}
 use Rattle.std.specs.Prelude.{List, [], ◌∷◌, length, drop}
 use Rattle.vga_bits.specs.declared.fault.Fault.{Fault}
 use Rattle.bios_modes.specs.Valid.{IsValid}

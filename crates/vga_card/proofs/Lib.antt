@@ -8,6 +8,7 @@ pub mod FrameLemmas
 pub mod BoundLemmas
 pub mod RowLemmas
 pub mod LineLemmas
+pub mod LineAheadLemmas
 pub mod DrawnLemmas
 pub mod PartLemmas
 pub mod WidthLemmas

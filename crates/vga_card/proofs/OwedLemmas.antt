@@ -1,16 +1,15 @@
 -- Cycles that need not wait for dots.
-use Rattle.std.proofs.Common.{◌≡◌, ℕ, zero, suc, ◌+◌, ◌/◌, ◌%◌, ◌<◌, ◌≤◌, refl, sym, ap, subst, ◌∙◌, arith, Bool, true, false, List, [], ◌∷◌, ◌++◌, Some, Ok}
+use Rattle.std.proofs.Common.{◌≡◌, ℕ, zero, suc, ◌+◌, ◌/◌, ◌%◌, ◌<◌, ◌≤◌, refl, sym, ap, ◌∙◌, arith, Bool, true, false, List, [], ◌∷◌, ◌++◌, Some, Ok}
 use Rattle.std.specs.Prelude.{if◌then◌else◌, slice_index, slice_set}
 use Rattle.std.proofs.lemmas.List.{get_or-set_other}
 use Rattle.vga_planes.specs.Planes.{byte_at}
 use Rattle.vga_host.specs.Graphics.{is_graphics}
 use Rattle.vga_crtc.specs.declared.beam.Beam.{Beam}
-use Rattle.vga_crtc.specs.Fields.{horizontal_display_end}
 use Rattle.vga_crtc.specs.Beam.{with_frame_start_taken}
 use Rattle.vga_crtc.specs.Raster.{IsFrameStart, IsWithinItsLine, beam_at_dot_of_line, dot_number_in_line}
 use Rattle.vga_dots.specs.Line.{with_beam_at_dot_of_character}
 use Rattle.vga_card.specs.Line.{card_dots_to_line_end}
-use Rattle.vga_card.proofs.PartLemmas.{BeamGoes, LineWhole, is_shown_at}
+use Rattle.vga_card.proofs.PartLemmas.{BeamGoes, LineWhole}
 use Rattle.vga_bits.specs.Four.{Four}
 use Rattle.vga_host.specs.Host.{HostState}
 use Rattle.vga_host.specs.Memory.Address.{is_decoded, window_offset, is_reached, plane_offset}
@@ -178,7 +177,7 @@ never : (v : Bool) → v ≡ false → v ≡ true → ⊥
 never true a b = absurd (cc)
 never false a b = absurd (cc)
 
-seen_alike : (h : HostState) (c : CrtcState) (a : AttrState) (w v : ℕ) → (address_fetched_at_beam h c a ≡ plane_offset h w → ⊥) →
+pub seen_alike : (h : HostState) (c : CrtcState) (a : AttrState) (w v : ℕ) → (address_fetched_at_beam h c a ≡ plane_offset h w → ⊥) →
     (is_graphics h ≡ false → is_reached h w 2 ≡ false) → DotSeesSameBytes h c a (memory_after_put h w v)
 seen_alike h c a w v away beside = record {
   fetched = λ p l. byte_stays h w v (address_fetched_at_beam h c a) p l (λ reached. away);
@@ -189,14 +188,10 @@ pub not_both : (v : Bool) → v ≡ true → false ≡ v → ⊥
 not_both true a b = absurd (cc)
 not_both false a b = absurd (cc)
 
--- what is promised of places that are apart from those of a line
-abbrev pub IsApart : CardState → ℕ → Type 0
-IsApart c place = (h : HostState) (a : AttrState) (x k : ℕ) → x ≤ horizontal_display_end c.crtc.registers → address_fetched_at_beam h (with_beam_at_dot_of_character c.crtc x k) a ≡ place → ⊥
-
 abbrev pub Elsewhere : Type 0
 Elsewhere = (r : List ℕ) (b : Beam) → ¬ IsFrameStart b → with_frame_start_taken r b ≡ b
 
-in_line_dot : Elsewhere → BeamGoes → LineWhole → (n : ℕ) (c : CardState) → ¬ IsFrameStart c.crtc.beam → IsWithinItsLine (character_width c) c.crtc.registers c.crtc.beam →
+pub in_line_dot : Elsewhere → BeamGoes → LineWhole → (n : ℕ) (c : CardState) → ¬ IsFrameStart c.crtc.beam → IsWithinItsLine (character_width c) c.crtc.registers c.crtc.beam →
     n ≤ card_dots_to_line_end c → (i : ℕ) → i < n → crtc_after_dots_with_start_taken c i ≡ with_beam_at_dot_of_character c.crtc ((dot_number_in_line (character_width c) c.crtc.beam + i) / character_width c)
     ((dot_number_in_line (character_width c) c.crtc.beam + i) % character_width c)
 unfolding crtc_with_start_taken after_dots
@@ -206,22 +201,6 @@ in_line_dot elsewhere goes whole n c away inside few i l =
     let b = c.crtc.beam in
     let q = dot_number_in_line w b + i in
     ap (λ (x : Beam). record c.crtc { beam = x }) (goes w r b i inside (omega (arith, whole w r b inside, few, l)) ∙ ap (λ (x : Beam). beam_at_dot_of_line w x q) (elsewhere r b away))
-
--- the dots of a line see a write alike that is apart from all of the line's
-pub line_sees_alike : Elsewhere → BeamGoes → LineWhole → (n : ℕ) (c : CardState) (w v : ℕ) → ¬ IsFrameStart c.crtc.beam →
-    IsWithinItsLine (character_width c) c.crtc.registers c.crtc.beam → n ≤ card_dots_to_line_end c → IsApart c (plane_offset c.host w) →
-    (is_graphics c.host ≡ false → is_reached c.host w 2 ≡ false) → DotsSeeSameMemory n c (memory_after_put c.host w v)
-line_sees_alike elsewhere goes whole n c w v away inside few apart beside = record {
-  each = λ i l shown.
-      let cw = character_width c in
-      let q = dot_number_in_line cw c.crtc.beam + i in
-      let there : crtc_after_dots_with_start_taken c i ≡ with_beam_at_dot_of_character c.crtc (q / cw) (q % cw) = in_line_dot elsewhere goes whole n c away inside few i l in
-      subst (λ (x : CrtcState). DotSeesSameBytes c.host x c.attr (memory_after_put c.host w v)) (sym there)
-      (seen_alike c.host (with_beam_at_dot_of_character c.crtc (q / cw) (q % cw)) c.attr w v
-      (apart c.host c.attr (q / cw) (q % cw)
-      (is_shown_at c.crtc.registers (with_beam_at_dot_of_character c.crtc (q / cw) (q % cw)).beam (ap (λ (x : CrtcState). is_display x.registers x.beam) (sym there) ∙ shown)))
-      beside);
-}
 
 -- ---- a read of memory
 

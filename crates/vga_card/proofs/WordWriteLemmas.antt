@@ -14,16 +14,16 @@ both_hold true b both = (refl, both)
 both_hold false b both = absurd (cc)
 
 -- the adapter after a byte is written to memory
-abbrev after_byte : CardStateWithoutBeamAndDots → ℕ → ℕ → CardStateWithoutBeamAndDots
+abbrev pub after_byte : CardStateWithoutBeamAndDots → ℕ → ℕ → CardStateWithoutBeamAndDots
 after_byte a address v = record a { host = after_put a.host address v }
 
 -- a byte that is decoded is written
-byte_written : (c : CardState) (address v : ℕ) → is_decoded c.host c.misc address ≡ true →
+pub byte_written : (c : CardState) (address v : ℕ) → is_decoded c.host c.misc address ≡ true →
     put_cycle c address v ≡ (let done : WriteResult = (with_adapter c (after_byte (without_beam_and_dots c) address v), Ok tt) in done)
 byte_written c address v decoded = ap (λ (t : Bool). card_after_write c (if_decoded t (after_byte (without_beam_and_dots c) address v))) decoded
 
 -- two bytes that are decoded are written one after the other
-word_written : (c : CardState) (address v : ℕ) → (address == 0xFFFFFFFF) ≡ false → is_decoded c.host c.misc address ≡ true → is_decoded c.host c.misc (address + 1) ≡ true →
+pub word_written : (c : CardState) (address v : ℕ) → (address == 0xFFFFFFFF) ≡ false → is_decoded c.host c.misc address ≡ true → is_decoded c.host c.misc (address + 1) ≡ true →
     put_word_cycle c address v
     ≡ (let done : WriteResult = (with_adapter c (after_byte (after_byte (without_beam_and_dots c) address (v % 256)) (address + 1) (v / 256)), Ok tt) in done)
 word_written c address v few first second =

@@ -17,8 +17,8 @@ without_dots_of_ended_frame c = record c { drawn = dots_of_frame_so_far c }
 abbrev pub outcome_without_dots_of_ended_frame : {A : Type 0} → CardState × A → CardState × A
 outcome_without_dots_of_ended_frame after = (without_dots_of_ended_frame after.0, after.1)
 
--- An adapter with a fresh canvas can never be told from the adapter itself. Past the first dot of a
--- frame they are equal. A cycle has the same answer on both, and leaves the same state but for the
+-- No step tells an adapter with a fresh canvas from the adapter itself: only the dots drawn of the
+-- frame that ended differ, and no step reads these. Past the first dot of a frame they are equal. A cycle has the same answer on both, and leaves the same state but for the
 -- canvas. One dot or more lead both to the same state, and so does a frame.
 pub record DotsOfEndedFrameMakeNoDifference : Type 0 where
   pub under_way : (c : CardState) → is_first_dot_of_frame c.crtc.beam ≡ false → without_dots_of_ended_frame c ≡ c

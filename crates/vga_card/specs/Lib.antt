@@ -8,6 +8,7 @@ pub mod Cycles
 pub mod Dots
 pub mod Frames
 pub mod Line
+pub mod LineAhead
 pub mod Lines
 pub mod Picture
 pub mod Pixels

@@ -2,7 +2,6 @@
 ghost use Rattle.std.specs.Prelude.{◌≡◌, ℕ, ◌+◌, ◌*◌, ◌<◌, ◌≤◌, [], ◌∷◌, ◌++◌, length};
 ghost use Rattle.std.specs.Prelude.{slice_index, take, drop, replicate, vec_len, vec_capacity};
 ghost use Rattle.std.specs.Prelude.{IfOk, IfSome, IsOkUnless};
-ghost use Rattle.vga_bits.specs.Bytes.{zeros};
 ghost use Rattle.vga_host.specs.Sequencer.{character_width};
 ghost use Rattle.vga_crtc.specs.Fields.{vertical_display_end};
 ghost use Rattle.vga_crtc.specs.Raster.{dot_number_in_line};
@@ -21,7 +20,8 @@ pub(crate) mod saved;
 
 use crate::drawn::Drawn;
 use crate::lines::DrawnLines;
-use crate::shape::{Shape, count_rows};
+use crate::shape::Shape;
+use crate::widths::{MOST_LINES_WITH_DOTS, Widths};
 use std::alloc::Global;
 use std::marker::Model;
 use vga_bits::Fault;
@@ -29,9 +29,6 @@ use vga_dots::{Display, draw_line, draw_next_dots_of_line};
 
 /// How many dots a line can have: 256 characters of 9 dots.
 const WIDEST: usize = 2_304;
-
-/// How many lines of a frame can have a dot.
-const MOST_LINES_WITH_DOTS: usize = 1_024;
 
 /// The dots in order in one buffer, three bytes each, and the number of dots on each line. The
 /// buffer keeps its memory when it is cleared.
@@ -43,7 +40,7 @@ pub(crate) struct Canvas {
     /// How many bytes of the buffer the dots take. The bytes after them mean nothing, and are
     /// overwritten.
     used: usize,
-    widths: Vec<u32>,
+    widths: Widths,
     line: u16,
 }
 
@@ -54,13 +51,13 @@ impl Model for Canvas {
     ghost Value = { CanvasState };
 
     ghost view = { λ c. record {
-      dots = stored_dots c.widths.items (take c.used c.buffer.items);
+      dots = stored_dots c.widths (take c.used c.buffer.items);
       line = c.line;
-      width = slice_index c.widths.items c.line;
+      width = slice_index c.widths c.line;
     } };
 
     ghost invariant = { λ c. (c.used ≤ length c.buffer.items)
-        × IsCanvas (vec_capacity c.buffer) (take c.used c.buffer.items) c.widths.items c.line };
+        × IsCanvas (vec_capacity c.buffer) (take c.used c.buffer.items) c.widths c.line };
 }
 
 /// An empty buffer with room for `bytes` bytes. It fails only with `OutOfMemory`.
@@ -72,30 +69,6 @@ fn room_for(alloc: Global, bytes: usize) -> Result<Vec<u8>, Fault>
     match Vec::with_capacity(alloc, bytes) {
         Ok(buffer) => Ok(buffer),
         Err(_) => Err(Fault::OutOfMemory),
-    }
-}
-
-/// `len` widths, each 0. It fails only with `OutOfMemory`.
-#[tactic(auto, unfolding(vga_bits::specs::Bytes::zeros))]
-fn zero_widths(alloc: Global, len: usize) -> Result<Vec<u32>, Fault>
-    ensures items { IfOk result (λ v. v.items ≡ zeros len) }
-    ensures err { IsOkUnless result Fault.OutOfMemory }
-{
-    match vec![in alloc; 0; len] {
-        Ok(widths) => Ok(widths),
-        Err(_) => Err(Fault::OutOfMemory),
-    }
-}
-
-/// Sets all widths to 0. Those after `last` are 0 already.
-fn clear_widths(widths: &mut [u32], last: usize)
-    requires within { last < length widths.old }
-    requires later { (j : ℕ) → last < j → slice_index widths.old j ≡ 0 }
-    ensures { (j : ℕ) → slice_index widths.new j ≡ 0 }
-{
-    widths[last] = 0;
-    for line in 0..last {
-        widths[line] = 0;
     }
 }
 
@@ -210,7 +183,7 @@ impl Canvas {
         ensures err { IsOkUnless result Fault.OutOfMemory }
     {
         let buffer = room_for(alloc, 3 * WIDEST * MOST_LINES_WITH_DOTS)?;
-        let widths = zero_widths(alloc, MOST_LINES_WITH_DOTS)?;
+        let widths = Widths::new(alloc)?;
         Ok(Canvas {
             buffer,
             used: 0,
@@ -233,8 +206,7 @@ impl Canvas {
         self.buffer.truncate(self.used);
         push_colour(&mut self.buffer, colour);
         self.used += 3;
-        let width = &mut self.widths[line as usize];
-        *width += 1;
+        self.widths.add(line as usize, 1);
         self.line = line;
     }
 
@@ -261,8 +233,7 @@ impl Canvas {
         let dots = count * CW;
         append_line::<CW>(display, &mut self.buffer, self.used, 3 * dots);
         self.used += 3 * dots;
-        let width = &mut self.widths[line as usize];
-        *width += dots as u32;
+        self.widths.add(line as usize, dots as u32);
         self.line = line;
     }
 
@@ -290,8 +261,7 @@ impl Canvas {
         let line = display.beam().line;
         append_next_dots::<CW>(display, count, &mut self.buffer, self.used);
         self.used += 3 * count;
-        let width = &mut self.widths[line as usize];
-        *width += count as u32;
+        self.widths.add(line as usize, count as u32);
         self.line = line;
     }
 
@@ -300,7 +270,7 @@ impl Canvas {
         ensures { self.new ≡ blank_canvas }
     {
         self.used = 0;
-        clear_widths(self.widths.as_mut_slice(), self.line as usize);
+        self.widths.clear(self.line as usize);
         self.line = 0;
     }
 
@@ -308,7 +278,7 @@ impl Canvas {
     pub(crate) fn rows(&self) -> u16
         ensures { result ≡ row_count self.now.dots }
     {
-        count_rows(self.widths.as_slice())
+        self.widths.rows()
     }
 
     /// The shape of the picture, at most 2,304 by 1,024, or `None` where two rows differ in width.

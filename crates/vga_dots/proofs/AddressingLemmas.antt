@@ -1,7 +1,7 @@
 -- An address by multiplying and adding a bit is the fetch address.
-use Rattle.std.proofs.Common.{◌≡◌, ℕ, ◌+◌, ◌-◌, ◌*◌, ◌/◌, ◌%◌, ◌<◌, ◌≤◌, arith, Bool, true, false, List}
+use Rattle.std.proofs.Common.{◌≡◌, ℕ, ◌+◌, ◌-◌, ◌*◌, ◌/◌, ◌%◌, ◌<◌, ◌≤◌, arith, Bool, true, false, List, refl, subst}
 use Rattle.std.specs.Prelude.{◌^◌, if◌then◌else◌}
-use Rattle.std.specs.Prelude.{nat_lt, nat_le}
+use Rattle.std.specs.Prelude.{nat_lt}
 use Rattle.std.specs.Int.{bit_at}
 use Rattle.std.proofs.lemmas.Bool.Decides.{nat_tests}
 use Rattle.vga_host.specs.Host.{HostState}
@@ -16,6 +16,8 @@ use Rattle.vga_crtc.specs.Fields.{is_double_word, is_byte_mode, is_address_wrap}
 use Rattle.vga_dots.specs.declared.addressing.Addressing.{Addressing}
 use Rattle.vga_dots.specs.SourceDot.{fetch_address}
 use Rattle.vga_dots.specs.Addressing.{addressing_of}
+use Rattle.vga_host.specs.declared.offset_run.OffsetRun.{OffsetRun}
+use Rattle.vga_host.specs.OffsetRun.{is_in_run}
 
 -- the address by what is looked up
 abbrev pub reached : Addressing → ℕ → ℕ
@@ -86,10 +88,20 @@ apart h c a x k last place small l far =
     (near_line c.registers c.beam.base x last place small (omega (arith, l)) far)
     (near_line c.registers c.beam.base (x + 1) last place small (omega (arith, l)) far)
 
-far_of : (x y : ℕ) → nat_le x y ≡ true → x ≤ y
+far_of : (x y : ℕ) → nat_lt x y ≡ false → y ≤ x
 far_of x y h = grind (arith, nat_tests)
 
-pub tested_apart : (h : HostState) (c : CrtcState) (a : AttrState) (x k last place : ℕ) → last < 256 → x ≤ last →
-    nat_le ((last + 2) * (addressing_of c.registers).step) ((place + (65536 - c.beam.base * (addressing_of c.registers).step % 65536)) % 65536) ≡ true
-    → address_fetched_at_beam h (with_beam_at_dot_of_character c x k) a ≡ place → ⊥
-tested_apart h c a x k last place small l test = apart h c a x k last place small l (far_of _ _ test)
+true_unless_false : (v : Bool) → (v ≡ false → ⊥) → v ≡ true
+true_unless_false true never = refl
+true_unless_false false never = absurd (never refl)
+
+-- what the dots of a line fetch is in the run of the line
+pub fetched_in_run : (h : HostState) (c : CrtcState) (a : AttrState) (x k last : ℕ) (run : OffsetRun) → last < 256 → x ≤ last →
+    run.first ≡ c.beam.base * (addressing_of c.registers).step % 65536 → run.count ≡ (last + 2) * (addressing_of c.registers).step →
+    is_in_run run (address_fetched_at_beam h (with_beam_at_dot_of_character c x k) a) ≡ true
+fetched_in_run h c a x k last run small l first count =
+    let place = address_fetched_at_beam h (with_beam_at_dot_of_character c x k) a in
+    true_unless_false (is_in_run run place) (λ outside.
+    apart h c a x k last place small l
+    (far_of _ _ (subst (λ f. nat_lt ((place + (65536 - f)) % 65536) ((last + 2) * (addressing_of c.registers).step) ≡ false) first
+    (subst (λ n. nat_lt ((place + (65536 - run.first)) % 65536) n ≡ false) count outside))) refl)

@@ -5,11 +5,13 @@ ghost use Rattle.vga_host.specs.Host.{HostState};
 ghost use Rattle.vga_crtc.specs.Fields.{horizontal_display_end};
 ghost use Rattle.vga_attr.specs.Attr.{AttrState};
 ghost use Rattle.vga_dots.specs.SourceDot.{fetch_address};
+ghost use Rattle.vga_host.specs.OffsetRun.{is_in_run};
 ghost use Rattle.vga_dots.specs.Addressing.{addressing_of};
 ghost use Rattle.vga_dots.specs.Fetch.{address_fetched_at_beam};
 ghost use Rattle.vga_dots.specs.Line.{with_beam_at_dot_of_character};
 
 use vga_crtc::{Crtc, Registers};
+use vga_host::OffsetRun;
 
 /// A bit that no counter has.
 const NO_BIT: u32 = 16;
@@ -58,18 +60,19 @@ impl Addressing {
     }
 }
 
-/// True only if no displayed dot of the beam's line fetches an offset. The start of the frame must
-/// have been taken. An offset near the fetched ones may count as fetched.
+/// The offsets in each plane that the displayed dots of the beam's line may fetch. The start of the
+/// frame must have been taken.
 #[tactic(auto, unfolding(crate::specs::Addressing::addressing_of))]
-pub fn is_not_fetched_on_line(crtc: &Crtc, offset: u16) -> bool
-    ensures { result ≡ true → (h : HostState) (a : AttrState) (x k : ℕ) →
-        x ≤ horizontal_display_end crtc.now.registers
-        → ¬ (address_fetched_at_beam h (with_beam_at_dot_of_character crtc.now x k) a ≡ offset) }
+pub fn offsets_fetched_on_line(crtc: &Crtc) -> OffsetRun
+    ensures { (h : HostState) (a : AttrState) (x k : ℕ) → x ≤ horizontal_display_end crtc.now.registers
+        → is_in_run result (address_fetched_at_beam h (with_beam_at_dot_of_character crtc.now x k) a) ≡ true }
 {
     let registers = crtc.fields();
     let step = Addressing::new(registers).step;
-    let first = crtc.beam().base.wrapping_mul(step);
-    let characters = registers.horizontal_display_end() as u32 + 2;
-    let distance = offset.wrapping_sub(first);
-    characters * step as u32 <= distance as u32
+    // A panned line fetches one character more than it shows.
+    let characters = registers.horizontal_display_end() as u16 + 2;
+    OffsetRun {
+        first: crtc.beam().base.wrapping_mul(step),
+        count: characters * step,
+    }
 }

@@ -20,7 +20,7 @@ mod text_line;
 mod text_trace;
 mod worked_examples;
 
-pub use addressing::is_not_fetched_on_line;
+pub use addressing::offsets_fetched_on_line;
 pub use colour::dot_colour;
 pub use display::Display;
 pub use dot_trace::{DotTrace, trace_dot};

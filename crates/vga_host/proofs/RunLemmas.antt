@@ -44,13 +44,17 @@ access_where false access h misc a v is = is
 pub access_stays : (access : MemoryAccess) (h : HostState) (misc a v : ℕ) → IsAccess access h → IsAccess access (after_put_if_decoded h misc a v)
 access_stays access h misc a v is = access_where (is_decoded h misc a) access h misc a v is
 
+-- nor what a byte makes
+pub written_after : (bytes : Four ℕ) (h : HostState) (a v b : ℕ) → bytes ≡ four_by_plane (λ p. written_byte h b p) →
+    bytes ≡ four_by_plane (λ p. written_byte (after_put h a v) b p)
+unfolding written_bit combined_bit
+written_after bytes h a v b e = e
+
 written_where : (d : Bool) (bytes : Four ℕ) (h : HostState) (a v b : ℕ) → bytes ≡ four_by_plane (λ p. written_byte h b p) →
     bytes ≡ four_by_plane (λ p. written_byte (if d then after_put h a v else h) b p)
-unfolding written_bit combined_bit
-written_where true bytes h a v b e = e
+written_where true bytes h a v b e = written_after bytes h a v b e
 written_where false bytes h a v b e = e
 
--- nor what a byte makes
 pub written_stays : (bytes : Four ℕ) (h : HostState) (misc a v b : ℕ) → bytes ≡ four_by_plane (λ p. written_byte h b p) →
     bytes ≡ four_by_plane (λ p. written_byte (after_put_if_decoded h misc a v) b p)
 written_stays bytes h misc a v b e = written_where (is_decoded h misc a) bytes h a v b e

@@ -102,4 +102,51 @@ impl Planes {
         let at = &mut self.words[offset as usize];
         *at = merged_by_mask(source, mask, *at);
     }
+
+    /// Stores two latches' bytes at the same offset, each in the planes of its set, the second after
+    /// the first. Nothing else changes.
+    #[inline(always)]
+    fn store_two(
+        &mut self,
+        offset: u16,
+        first: Latch,
+        first_set: PlaneSet,
+        second: Latch,
+        second_set: PlaneSet,
+    )
+        ensures { self.new ≡ with_bytes_at_offset
+            (with_bytes_at_offset self.old offset first first_set) offset second second_set }
+    {
+        let first_mask = mask_of_planes(first_set);
+        let second_mask = mask_of_planes(second_set);
+        let first_source = first.word();
+        let second_source = second.word();
+        let at = &mut self.words[offset as usize];
+        let word = merged_by_mask(first_source, first_mask, *at);
+        *at = merged_by_mask(second_source, second_mask, word);
+    }
+
+    /// Stores two latches' bytes in turn, each at its offset, in the planes of its set. Nothing else
+    /// changes. Two bytes at the same offset are stored as one word.
+    #[inline(always)]
+    pub fn store_in_turn(
+        &mut self,
+        first_offset: u16,
+        first: Latch,
+        first_set: PlaneSet,
+        second_offset: u16,
+        second: Latch,
+        second_set: PlaneSet,
+    )
+        ensures { self.new ≡ with_bytes_at_offset
+            (with_bytes_at_offset self.old first_offset first first_set) second_offset second
+            second_set }
+    {
+        if first_offset == second_offset {
+            self.store_two(first_offset, first, first_set, second, second_set);
+        } else {
+            self.store(first_offset, first, first_set);
+            self.store(second_offset, second, second_set);
+        }
+    }
 }

@@ -10,7 +10,6 @@ from __future__ import annotations
 
 import re
 import tempfile
-from collections import Counter
 from pathlib import Path
 from typing import Iterator, NamedTuple
 
@@ -91,8 +90,12 @@ WORDS = frozenset(
 NAMES = re.compile(r"w2c_(?:[iljpgfBL]\d+|Bfunc|page_take|page_give|zak_\w+)")
 WORD = re.compile(r"\b[A-Za-z_]\w*")
 # Calls keep their names, behind this word.
-# The calls of a single cycle. Each begins with a quick way, which calls nothing.
-CYCLES = ("put", "put_word", "get", "get_word", "out", "out_word", "in")
+# The calls of a single cycle, and the bits of the number that each gives. Each begins with a quick
+# way, which calls nothing, and ends with its last call.
+CYCLES = {"put": 0, "put_word": 0, "get": 8, "get_word": 16, "out": 0, "out_word": 0, "in": 8}
+LAST_CALL = re.compile(r"  (w2c_i0) = (w2c_f\d+)\(self, (.*)\);")
+AFTER_LAST_CALL = ("  goto w2c_Bfunc;", "  w2c_Bfunc:;")
+ANSWERED = "  return w2c_i0;"
 SHOWN = re.compile(r"\bw2c_((?:zak|page)_\w+)")
 
 
@@ -184,6 +187,68 @@ class Places:
         return line
 
 
+class Cycle(NamedTuple):
+    """A call of a single cycle: its function in the module, and the bits of the number that it
+    gives.
+
+    The module's function gets the caller's card, and where that number goes. It ends with its last
+    call, which closes the card after a trap. So a compiler saves no register for it in the quick
+    way.
+    """
+
+    name: str
+    bits: int
+
+    @property
+    def _given(self) -> str:
+        return f", uint{self.bits}_t *value" if self.bits else ""
+
+    @property
+    def _gives(self) -> str:
+        if not self.bits:
+            return ""
+        return f"    if (status == ZAK_OK)\n        *value = told{self.bits}(self, 0);\n"
+
+    def parameters(self, parameters: str) -> str:
+        """The parameters of its function, which has these in the module."""
+        return f", zak_card *card{self._given}{parameters}"
+
+    def body(self, body: str, trapping: frozenset[str]) -> str:
+        """The statements, with each last call as one of a function of its own. No other call may
+        trap."""
+        lines = body.splitlines()
+        for number, line in enumerate(lines):
+            last = LAST_CALL.fullmatch(line)
+            if last is not None and lines[number + 1] in AFTER_LAST_CALL:
+                value = ", value" if self.bits else ""
+                lines[number] = f"  return ended_{last[2]}(self, card{value}, {last[3]});"
+            elif trapping & set(CALLED.findall(line)):
+                raise Trouble(f"{self.name} goes on after a call that may trap", NAMED)
+            elif line == ANSWERED and self.bits:
+                given = f"*value = told{self.bits}(self, 0);"
+                lines[number] = f"  if (w2c_i0 == ZAK_OK) {given}\n{line}"
+        return "\n".join(lines)
+
+    def _last_calls(self, body: str) -> Iterator[str]:
+        lines = body.splitlines()
+        for line, after in zip(lines, lines[1:]):
+            last = LAST_CALL.fullmatch(line)
+            if last is not None and after in AFTER_LAST_CALL:
+                yield last[2]
+
+    def endings(self, body: str, functions: dict[str, Function]) -> Iterator[str]:
+        """The functions that its last calls are."""
+        for name in self._last_calls(body):
+            function = functions[name]
+            words = [word.split()[-1] for word in function.parameters.split(",")[1:]]
+            yield _short(
+                f"APART static u32 ended_{name}(module *self"
+                f"{self.parameters(function.parameters)})\n{{\n"
+                f"    u32 status = {name}(self, {', '.join(words)});\n{self._gives}"
+                "    return NEVER(self->is_broken) ? close_broken(card) : status;\n}\n"
+            )
+
+
 class Writer:
     """Writes functions, each with m as its memory, anew where that may have moved, and with its
     traps.
@@ -192,8 +257,9 @@ class Writer:
     call.
     """
 
-    def __init__(self, bodies: dict[str, str]) -> None:
+    def __init__(self, bodies: dict[str, str], cycles: dict[str, Cycle]) -> None:
         self._bodies = bodies
+        self._cycles = cycles
         self._growing = _reaching(bodies, GROWS)
         self._trapping = _reaching(bodies, TRAPS)
 
@@ -208,28 +274,17 @@ class Writer:
     def written(self, function: Function) -> str:
         """A function as C."""
         leave = LEAVES[function.answer]
-        body = self._bodies[function.name]
+        body, parameters = self._bodies[function.name], function.parameters
+        if function.name in self._cycles:
+            cycle = self._cycles[function.name]
+            body, parameters = cycle.body(body, self._trapping), cycle.parameters(parameters)
         has_memory = re.search(r"_(?:load|store|copy|fill)", body) is not None
         begin = "  u8 *m = self->memory;\n" if has_memory else ""
         body = body.replace("  FUNC_PROLOGUE;\n", begin, 1)
         places = Places()
         lines = (self._line(places.line(line), has_memory, leave) for line in body.splitlines())
-        head = f"static {function.answer} {function.name}(module *self{function.parameters})"
+        head = f"static {function.answer} {function.name}(module *self{parameters})"
         return _short("\n".join((f"\n{head} {{", *lines, "}\n")))
-
-
-def _apart(bodies: dict[str, str]) -> frozenset[str]:
-    """The functions that the calls of a single cycle alone call, and once: what is rare in them.
-
-    A compiler of C would inline such a function, and save registers for it at each call.
-    """
-    calls = Counter(name for body in bodies.values() for name in CALLED.findall(body))
-    return frozenset(
-        name
-        for caller in CYCLES
-        for name in CALLED.findall(bodies.get(f"w2c_zak_{caller}", ""))
-        if calls[name] == 1
-    )
 
 
 def _short(text: str) -> str:
@@ -240,11 +295,15 @@ def _written(text: str) -> Iterator[str]:
     """The functions as C with names of its own, each declared before the first."""
     functions = _functions(text)
     bodies = {function.name: _rewritten(function.body) for function in functions}
-    writer = Writer(bodies)
-    apart = _apart(bodies)
+    cycles = {f"w2c_zak_{name}": Cycle(name, bits) for name, bits in CYCLES.items()}
+    writer = Writer(bodies, cycles)
     for answer, name, parameters in PROTOTYPE.findall(text):
-        word = "APART " if name in apart else ""
-        yield _short(f"{word}static {answer} {name}(module *{parameters});\n")
+        if name in cycles:
+            parameters = cycles[name].parameters(parameters)
+        yield _short(f"static {answer} {name}(module *{parameters});\n")
+    named = {function.name: function for function in functions}
+    for name, cycle in cycles.items():
+        yield from cycle.endings(bodies[name], named)
     for function in functions:
         yield writer.written(function)
 

@@ -102,12 +102,13 @@ enum {
 
 /* A card. `machine` points to everything that the card keeps, except the dots that it owes. */
 typedef struct zak_card {
-    bool is_open;  /* read only */
-    uint32_t owed; /* private */
-    void *machine; /* private */
+    bool is_open;     /* read only */
+    uint32_t owed;    /* private */
+    uint32_t line[2]; /* private */
+    void *machine;    /* private */
 } zak_card;
 
-#define ZAK_CARD_INIT { false, 0, NULL }
+#define ZAK_CARD_INIT { false, 0, { 0, 0 }, NULL }
 
 /* The interface of the linked library: 65,536 times its major number, plus its minor number. It
  * fits the header if the major numbers are equal and its minor number is not lower. */
@@ -145,7 +146,9 @@ zak_status zak_get_word(zak_card *card, uint32_t address, uint16_t *value);
  * address + i, in either direction. zak_move_bytes reads from + i and then writes to + i, for each
  * i in turn. *decoded is the number of addresses that the adapter decodes; zak_move_bytes counts
  * reads and writes, 2 * count if it decodes all. Words and doublewords that go up are one call over
- * all their bytes. If they go down, make a call for each, since the bytes of each go up.
+ * all their bytes. If they go down, make a call for each, since the bytes of each go up. In write
+ * mode 1 a word that is moved is zak_get_word and zak_put_word: both its bytes are read before one
+ * is written, so both get the latches of the second.
  * ZAK_BAD_ARGUMENT: address, from or to, plus the length, is above 0xFFFFFFFF. */
 zak_status zak_put_bytes(zak_card *card, uint32_t address, const uint8_t *bytes, size_t len,
                          bool down, size_t *decoded);
@@ -157,8 +160,8 @@ zak_status zak_move_bytes(zak_card *card, uint32_t from, uint32_t to, size_t cou
                           size_t *decoded);
 
 /* Lets the clock run for 0 to ZAK_MOST_DOTS dots; more are refused with ZAK_TOO_FAR. n and then m
- * dots are n + m dots. The library adds up the dots of successive calls, and the next other call
- * draws them all: a call of a few dots costs little. */
+ * dots are n + m dots. The library adds up the dots of successive calls, and draws them when a call
+ * needs them drawn: a call of a few dots costs little. */
 zak_status zak_advance(zak_card *card, uint32_t dots);
 
 /* Says when the frame ends and when input status 1 changes next, if no register is written until
@@ -227,7 +230,7 @@ zak_status zak_frame_update(zak_card *card, uint32_t flags, zak_picture *picture
  * still gives the frame. ZAK_RAGGED and ZAK_NO_ROOM: as for zak_frame. ZAK_OUT_OF_MEMORY: the call
  * allocates 256 KiB, which it frees before it returns; nothing has changed. */
 typedef struct zak_palette {
-    uint32_t len;          /* how many colours, 1 to 256 */
+    uint32_t len;          /* how many colours, 0 to 256: none if the picture has no dot */
     uint32_t colours[256]; /* words 00RRGGBB, and 0 behind them */
 } zak_palette;
 
@@ -260,8 +263,8 @@ zak_status zak_frame_lines(zak_card *card, uint32_t widths[ZAK_HIGHEST], uint8_t
 zak_status zak_skip_frame(zak_card *card);
 
 /* What is drawn until now of the frame under way, line by line as zak_frame_lines writes a whole
- * frame. The clock stands still. At the first dot of a frame it is the frame before, unless that
- * was skipped. ZAK_NO_ROOM: widths and *rgb_used are written, but rgb is not. */
+ * frame. The clock stands still. At the first dot of a frame it is the frame before; it is empty if
+ * that was skipped, or if there was none since zak_open or zak_restore. ZAK_NO_ROOM: widths and *rgb_used are written, but rgb is not. */
 zak_status zak_peek(zak_card *card, uint32_t widths[ZAK_HIGHEST], uint8_t *rgb, size_t rgb_cap,
                     size_t *rgb_used);
 

@@ -30,6 +30,7 @@ pub type zak_status = u32;
 pub struct zak_card {
     pub is_open: bool,
     pub owed: u32,
+    pub line: [u32; 2],
     pub machine: *mut c_void,
 }
 

@@ -131,7 +131,7 @@ impl Card {
     ///
     /// [`Error::FontSize`], [`Error::OutOfMemory`].
     pub fn open(fonts: &[u8]) -> Result<Card, Error> {
-        let mut raw = sys::zak_card { is_open: false, owed: 0, machine: null_mut() };
+        let mut raw = sys::zak_card { is_open: false, owed: 0, line: [0; 2], machine: null_mut() };
         // SAFETY: a zero-filled card is a closed card.
         done(unsafe { sys::zak_open(&mut raw, fonts.as_ptr(), fonts.len()) })?;
         let (rgb, xrgb, widths) = (Vec::new(), Vec::new(), Vec::new());

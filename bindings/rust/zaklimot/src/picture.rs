@@ -91,7 +91,7 @@ impl<'a> Picture<'a> {
     }
 }
 
-/// The colours of a picture as words `00RRGGBB`, 1 to 256, each once, in the order in which they
+/// The colours of a picture as words `00RRGGBB`, at most 256, each once, in the order in which they
 /// first appear.
 #[derive(Clone, Copy, Debug, PartialEq, Eq)]
 pub struct Palette {

@@ -47,8 +47,7 @@ impl Canvas {
     {
         append_again(&mut self.buffer, self.used, 3 * count);
         self.used += 3 * count;
-        let width = &mut self.widths[line as usize];
-        *width += count as u32;
+        self.widths.add(line as usize, count as u32);
         self.line = line;
     }
 }

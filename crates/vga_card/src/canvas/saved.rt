@@ -13,7 +13,8 @@ ghost use Rattle.vga_card.specs.Saved.{saved_dots, saved_dots_from, widths_from_
 ghost use Rattle.vga_card.specs.Saved.{most_dots_on_line as most_dots_on, AreWidthsInBounds};
 ghost use Rattle.vga_card.specs.Saved.{AreSavedDots};
 
-use super::{Canvas, MOST_LINES_WITH_DOTS, WIDEST, lengthen_buffer};
+use super::{Canvas, WIDEST, lengthen_buffer};
+use crate::widths::MOST_LINES_WITH_DOTS;
 use vga_bits::{put_bytes, put_word, word_at};
 use vga_crtc::Beam;
 
@@ -101,17 +102,6 @@ pub(crate) fn are_saved_dots(beam: Beam, bytes: &[u8]) -> bool
     }
 }
 
-/// Sets the widths to those in some bytes.
-fn restore_widths(widths: &mut [u32], bytes: &[u8])
-    requires lines { length widths.old ≡ most_lines_of_a_frame }
-    requires all { 2048 ≤ length bytes.now }
-    ensures { widths.new ≡ widths_from_saved_bytes bytes.now }
-{
-    for line in 0..widths.len() {
-        widths[line] = word_at(bytes, 2 * line) as u32;
-    }
-}
-
 /// Overwrites the start of a buffer with some bytes. The buffer has memory for them.
 fn restore_bytes(buffer: &mut Vec<u8>, bytes: &[u8])
     requires { length bytes.now ≤ vec_capacity buffer.old }
@@ -150,7 +140,7 @@ impl Canvas {
         ensures drawn { IsCanvasDrawnToBeam beam self.new }
     {
         let rest = bytes.split_at(WIDTHS_LEN).1;
-        restore_widths(self.widths.as_mut_slice(), bytes);
+        self.widths.restore(bytes);
         restore_bytes(&mut self.buffer, rest);
         self.used = rest.len();
         self.line = beam.line.min(MOST_LINES_WITH_DOTS as u16 - 1);

@@ -12,6 +12,7 @@ ghost use Rattle.vga_card.specs.WordCycles.{out_word_cycle, put_word_cycle, get_
 ghost use Rattle.vga_host.specs.Memory.Address.{window_offset};
 ghost use Rattle.vga_host.specs.Ports.{IsHostPort, IsIndexPort};
 ghost use Rattle.vga_host.specs.Memory.Write.{memory_after_put};
+ghost use Rattle.vga_card.specs.LineAhead.{IsLineAhead, IsAtSameLine};
 ghost use Rattle.vga_card.specs.Owed.{DotsSeeSameMemory, IsChangeHiddenFromDots};
 
 use super::Card;
@@ -22,10 +23,9 @@ use crate::laws::{
     memory_reads_commute_with_dots, status_reads_commute_with_dots,
     unseen_writes_commute_with_dots,
 };
+use crate::line_ahead::LineAhead;
 use crate::port::{Port, port_reached};
 use vga_bits::Refusal;
-use vga_crtc::laws::{dots_move_beam_in_line, start_is_taken_once};
-use vga_dots::is_not_fetched_on_line;
 use vga_host::{GRAPHICS_DATA, GRAPHICS_INDEX, SEQUENCER_DATA, SEQUENCER_INDEX};
 
 /// Whether no dot sees the sequencer's register with this index. Dots see clocking mode and
@@ -58,29 +58,10 @@ impl Card {
         self.crtc.is_in_line(width) && n <= self.crtc.dots_to_line_end(width)
     }
 
-    /// True only if none of the next n dots sees a write to this address. They must be dots of the
-    /// beam's line, must not begin a frame, and must fetch nothing near the offset that is written.
-    /// In text the write must not reach the plane of glyphs.
-    #[inline(always)]
-    fn is_write_unseen(&self, n: u32, address: u32) -> bool
-        ensures { result ≡ true → (v : ℕ) → DotsSeeSameMemory n self.now
-            (memory_after_put self.now.host (window_offset self.now.host address) v) }
-    {
-        start_is_taken_once();
-        dots_move_beam_in_line();
-        if self.crtc.beam().is_first_dot_of_frame() || !self.are_next_dots_within_line(n) {
-            return false;
-        }
-        match self.host.write_offset_unless_glyphs(address, self.misc) {
-            Some(offset) => is_not_fetched_on_line(&self.crtc, offset),
-            None => false,
-        }
-    }
-
     /// Takes the rest of the line under way if it ends among the next n dots, and then the whole
     /// lines among them. It takes all n dots if the beam is past its line's end. It returns how many
     /// dots are left.
-    fn take_to_last_line_start(&mut self, n: u32) -> u32
+    pub(super) fn take_to_last_line_start(&mut self, n: u32) -> u32
         ensures left { result ≤ n }
         ensures dots { dots result self.new ≡ dots n self.old }
     {
@@ -100,78 +81,6 @@ impl Card {
         rest
     }
 
-    /// Takes those of the next n dots that may see a write to an address. It returns how many dots
-    /// are left. None of those sees the write.
-    #[inline(never)]
-    fn take_dots_that_may_see_write(&mut self, n: u32, address: u32) -> u32
-        ensures left { result ≤ n }
-        ensures dots { dots result self.new ≡ dots n self.old }
-        ensures unseen { (v : ℕ) → DotsSeeSameMemory result self.new
-            (memory_after_put self.new.host (window_offset self.new.host address) v) }
-    {
-        dots_split();
-        let left = self.take_to_last_line_start(n);
-        if self.is_write_unseen(left, address) {
-            return left;
-        }
-        self.take_dots(left);
-        0
-    }
-
-    /// Writes a byte to an address before the next n dots, if none of them sees it and the byte is
-    /// stored unchanged. It returns whether it did; if not, nothing changes. It serves speed alone:
-    /// a put is the most frequent cycle, and here it calls nothing.
-    #[inline(always)]
-    pub fn put_before_dots(&mut self, n: u32, address: u32, v: u8) -> bool
-        ensures done { result ≡ true → (dots n self.new, Ok tt)
-            ≡ put_cycle (dots n self.old) address v }
-        ensures left { result ≡ false → self.new ≡ self.old }
-    {
-        dots_split();
-        unseen_writes_commute_with_dots();
-        (n == 0 || self.is_write_unseen(n, address)) && self.put_if_unchanged(address, v)
-    }
-
-    /// Writes a byte to an address n dots on. It returns how many of these dots remain to be taken
-    /// after the write. They do not see it.
-    pub fn put_with_dots_owed(&mut self, n: u32, address: u32, v: u8) -> (u32, Result<(), Refusal>)
-        ensures left { result.0 ≤ n }
-        ensures put { (dots result.0 self.new, result.1) ≡ put_cycle (dots n self.old) address v }
-    {
-        dots_split();
-        unseen_writes_commute_with_dots();
-        if n == 0 || self.is_write_unseen(n, address) {
-            (n, self.put(address, v))
-        } else {
-            let left = self.take_dots_that_may_see_write(n, address);
-            (left, self.put(address, v))
-        }
-    }
-
-    /// Writes a word to an address and the next, n dots on. It returns how many of these dots
-    /// remain to be taken after the write. They see neither byte.
-    pub fn put_word_with_dots_owed(
-        &mut self,
-        n: u32,
-        address: u32,
-        v: u16,
-    ) -> (u32, Result<(), Refusal>)
-        ensures left { result.0 ≤ n }
-        ensures put { (dots result.0 self.new, result.1)
-            ≡ put_word_cycle (dots n self.old) address v }
-    {
-        dots_change_only_beam_and_picture();
-        if address == u32::MAX || !self.decodes_word(address) {
-            return (n, Err(Refusal::NotDecoded));
-        }
-        let (low, high) = bytes_of(v);
-        let (left, first) = self.put_with_dots_owed(n, address, low);
-        match first {
-            Ok(()) => self.put_with_dots_owed(left, address + 1, high),
-            Err(refusal) => (left, Err(refusal)),
-        }
-    }
-
     /// Whether a port is that of input status 1.
     fn is_input_status_1(&self, port: u16) -> bool
         ensures { result ≡ true → port_of self.now.misc port ≡ Some InputStatus1 }
@@ -188,8 +97,9 @@ impl Card {
         requires few { n ≤ dots_to_line_end (character_width self.old) self.old.crtc.registers
             self.old.crtc.beam }
         requires at_most { n ≤ 2340 }
-        ensures { (port : ℕ) → port_of self.old.misc port ≡ Some InputStatus1 →
+        ensures read { (port : ℕ) → port_of self.old.misc port ≡ Some InputStatus1 →
             (dots n self.new, Ok result) ≡ inp_cycle (dots n self.old) port }
+        ensures line { IsAtSameLine self.old self.new }
     {
         status_reads_commute_with_dots();
         let status = self.crtc.status_after(self.host.character_width(), n);
@@ -287,6 +197,7 @@ impl Card {
     #[tactic(auto, unfolding(crate::specs::Cycles::inp_reached))]
     pub fn inp_status(&mut self, port: u16) -> Option<u8>
         ensures read { IfSome result (λ v. (self.new, Ok v) ≡ inp_cycle self.old port) }
+        ensures line { IsAtSameLine self.old self.new }
         ensures left { result ≡ None → self.new ≡ self.old }
     {
         if !self.is_input_status_1(port) {
@@ -296,12 +207,29 @@ impl Card {
         Some(self.crtc.status())
     }
 
+    /// Reads input status 1 as it is n dots on, one at least, if they are dots of the line ahead and
+    /// the port is its port. Else it is `None`, and nothing changes.
+    #[inline(always)]
+    pub fn inp_status_before_line(&mut self, line: LineAhead, n: u32, port: u16) -> Option<u8>
+        requires { IsLineAhead line self.old }
+        ensures read { IfSome result (λ v. (dots n self.new, Ok v)
+            ≡ inp_cycle (dots n self.old) port) }
+        ensures line { IsAtSameLine self.old self.new }
+        ensures left { result ≡ None → self.new ≡ self.old }
+    {
+        if n == 0 || n > line.dots || !self.is_input_status_1(port) {
+            return None;
+        }
+        Some(self.read_status_with_dots_owed(n))
+    }
+
     /// Reads a byte from an address in read mode 0, however many dots are owed before. It is
     /// `None`, and changes nothing, in read mode 1 and where the address is not decoded.
     #[inline(always)]
     pub fn get_from_plane_before_dots(&mut self, address: u32) -> Option<u8>
         ensures read { IfSome result (λ v. (n : ℕ)
             → (dots n self.new, Ok v) ≡ get_cycle (dots n self.old) address) }
+        ensures line { IsAtSameLine self.old self.new }
         ensures left { result ≡ None → self.new ≡ self.old }
     {
         memory_reads_commute_with_dots();
@@ -315,6 +243,7 @@ impl Card {
     pub fn get_word_from_planes_before_dots(&mut self, address: u32) -> Option<u16>
         ensures read { IfSome result (λ v. (n : ℕ)
             → (dots n self.new, Ok v) ≡ get_word_cycle (dots n self.old) address) }
+        ensures line { IsAtSameLine self.old self.new }
         ensures left { result ≡ None → self.new ≡ self.old }
     {
         memory_reads_commute_with_dots();
@@ -388,6 +317,7 @@ impl Card {
     pub fn out_before_dots(&mut self, port: u16, v: u8) -> bool
         ensures done { result ≡ true → (n : ℕ)
             → (dots n self.new, Ok tt) ≡ out_cycle (dots n self.old) port v }
+        ensures line { IsAtSameLine self.old self.new }
         ensures left { result ≡ false → self.new ≡ self.old }
     {
         hidden_writes_commute_with_dots();
@@ -416,6 +346,7 @@ impl Card {
     pub fn out_word_before_dots(&mut self, port: u16, v: u16) -> bool
         ensures done { result ≡ true → (n : ℕ)
             → (dots n self.new, Ok tt) ≡ out_word_cycle (dots n self.old) port v }
+        ensures line { IsAtSameLine self.old self.new }
         ensures left { result ≡ false → self.new ≡ self.old }
     {
         hidden_writes_commute_with_dots();

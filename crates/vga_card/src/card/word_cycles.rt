@@ -2,7 +2,10 @@
 //! refused cycle moves neither byte.
 ghost use Rattle.std.specs.Prelude.{◌≡◌, ◌+◌, ◌*◌, ◌/◌, ◌%◌, ◌<◌, ◌&&◌, IsOk};
 ghost use Rattle.std.specs.Prelude.{true, false, None, Ok, IfSome};
-ghost use Rattle.vga_host.specs.Memory.Address.{is_decoded};
+ghost use Rattle.vga_host.specs.Graphics.{is_graphics};
+ghost use Rattle.vga_host.specs.Memory.Address.{is_decoded, window_offset, plane_offset, is_reached};
+ghost use Rattle.vga_host.specs.OffsetRun.{is_in_run};
+ghost use Rattle.vga_card.specs.LineAhead.{IsAtSameLine};
 ghost use Rattle.vga_card.specs.Cycles.{out_cycle, inp_cycle};
 ghost use Rattle.vga_card.specs.Port.{crtc_port};
 ghost use Rattle.vga_card.specs.WordCycles.{IsPortReadWithoutEffect, out_low_and_high_byte, inp_low_and_high_byte};
@@ -13,7 +16,7 @@ ghost use Rattle.vga_card.specs.WordCycles.{put_word_cycle, get_word_cycle};
 use super::Card;
 use crate::port::{Port, port_reached};
 use vga_bits::Refusal;
-use vga_host::{GRAPHICS_INDEX, SEQUENCER_DATA, SEQUENCER_INDEX};
+use vga_host::{GRAPHICS_INDEX, OffsetRun, SEQUENCER_DATA, SEQUENCER_INDEX};
 
 /// The low and the high byte of a word.
 pub(super) fn bytes_of(v: u16) -> (u8, u8)
@@ -199,6 +202,7 @@ impl Card {
     #[inline(always)]
     pub fn put_word_if_unchanged(&mut self, address: u32, v: u16) -> bool
         ensures done { result ≡ true → (self.new, Ok tt) ≡ put_word_cycle self.old address v }
+        ensures line { IsAtSameLine self.old self.new }
         ensures left { result ≡ false → self.new ≡ self.old }
     {
         if address == u32::MAX {
@@ -207,6 +211,34 @@ impl Card {
         let (low, high) = bytes_of(v);
         self.host
             .put_word_if_unchanged(address, low, high, self.misc)
+    }
+
+    /// Writes a word as `put_word_if_unchanged` does, if neither byte is stored at an offset of the
+    /// run, nor, in text, in the plane of glyphs. The address is not the last.
+    #[inline(always)]
+    pub(super) fn put_word_if_unchanged_outside(
+        &mut self,
+        run: OffsetRun,
+        address: u32,
+        v: u16,
+    ) -> bool
+        requires { address < 4294967295 }
+        ensures done { result ≡ true → (self.new, Ok tt) ≡ put_word_cycle self.old address v }
+        ensures decoded { result ≡ true → (is_decoded self.old.host self.old.misc address ≡ true)
+            × (is_decoded self.old.host self.old.misc (address + 1) ≡ true) }
+        ensures apart { result ≡ true → (is_in_run run (plane_offset self.old.host
+            (window_offset self.old.host address)) ≡ false)
+            × (is_in_run run (plane_offset self.old.host
+            (window_offset self.old.host (address + 1))) ≡ false) }
+        ensures beside { result ≡ true → is_graphics self.old.host ≡ false
+            → (is_reached self.old.host (window_offset self.old.host address) 2 ≡ false)
+            × (is_reached self.old.host (window_offset self.old.host (address + 1)) 2 ≡ false) }
+        ensures line { IsAtSameLine self.old self.new }
+        ensures left { result ≡ false → self.new ≡ self.old }
+    {
+        let (low, high) = bytes_of(v);
+        self.host
+            .put_word_if_unchanged_outside(run, address, low, high, self.misc)
     }
 
     /// Reads a word from an address and the next in read mode 0. Afterwards the latches are those of

@@ -5,7 +5,7 @@
  * own head. It has places for the card, for what a call tells in numbers and structs, the widths of
  * lines among them, and a desk for bytes. */
 #define CARD (((HEAP_BASE + 15u) & ~15u) + 16u)
-#define CARD_LEN 16u
+#define CARD_LEN 32u
 #define TOLD (CARD + CARD_LEN)
 #define TOLD_LEN (4u * ZAK_HIGHEST)
 #define DESK (TOLD + TOLD_LEN)
@@ -160,6 +160,7 @@ zak_status zak_open(zak_card *card, const uint8_t *fonts, size_t fonts_len)
     if (status == ZAK_OK) {
         card->is_open = true;
         card->owed = 0;
+        card->line[0] = card->line[1] = 0;
         card->machine = self;
     } else {
         free_module(self);
@@ -182,25 +183,25 @@ zak_status zak_close(zak_card *card)
 zak_status zak_out(zak_card *card, uint16_t port, uint8_t value)
 {
     BEGIN(card);
-    END(card, module_zak_out(self, CARD, port, value));
+    return module_zak_out(self, card, CARD, port, value);
 }
 
 zak_status zak_out_word(zak_card *card, uint16_t port, uint16_t value)
 {
     BEGIN(card);
-    END(card, module_zak_out_word(self, CARD, port, value));
+    return module_zak_out_word(self, card, CARD, port, value);
 }
 
 zak_status zak_put(zak_card *card, uint32_t address, uint8_t value)
 {
     BEGIN(card);
-    END(card, module_zak_put(self, CARD, address, value));
+    return module_zak_put(self, card, CARD, address, value);
 }
 
 zak_status zak_put_word(zak_card *card, uint32_t address, uint16_t value)
 {
     BEGIN(card);
-    END(card, module_zak_put_word(self, CARD, address, value));
+    return module_zak_put_word(self, card, CARD, address, value);
 }
 
 zak_status zak_advance(zak_card *card, uint32_t dots)
@@ -218,7 +219,7 @@ zak_status zak_skip_frame(zak_card *card)
 zak_status zak_in(zak_card *card, uint16_t port, uint8_t *value)
 {
     BEGIN(card);
-    END_WITH(card, module_zak_in(self, CARD, port, TOLD), *value = told8(self, 0));
+    return module_zak_in(self, card, value, CARD, port, TOLD);
 }
 
 zak_status zak_in_word(zak_card *card, uint16_t port, uint16_t *value)
@@ -230,13 +231,13 @@ zak_status zak_in_word(zak_card *card, uint16_t port, uint16_t *value)
 zak_status zak_get(zak_card *card, uint32_t address, uint8_t *value)
 {
     BEGIN(card);
-    END_WITH(card, module_zak_get(self, CARD, address, TOLD), *value = told8(self, 0));
+    return module_zak_get(self, card, value, CARD, address, TOLD);
 }
 
 zak_status zak_get_word(zak_card *card, uint32_t address, uint16_t *value)
 {
     BEGIN(card);
-    END_WITH(card, module_zak_get_word(self, CARD, address, TOLD), *value = told16(self, 0));
+    return module_zak_get_word(self, card, value, CARD, address, TOLD);
 }
 
 /* Whether the addresses of a transfer go past the last one. */

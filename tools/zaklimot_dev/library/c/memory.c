@@ -147,3 +147,8 @@ static u32 memory_grow(module *self, u32 more)
     self->pages = had + more;
     return had;
 }
+
+/* What the module's calls of a single cycle end with, which stands below. */
+static u8 told8(module *self, u32 place);
+static u16 told16(module *self, u32 place);
+static zak_status close_broken(zak_card *card);

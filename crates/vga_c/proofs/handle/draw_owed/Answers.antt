@@ -9,5 +9,5 @@ pub returns-clause-machine : goal.returns-clause-machine
 unfolding machine_after_owed_dots
 returns-clause-machine c =
     c.give.ensures.machine ∙ c.advance.ensures.after
-    ∙ ap (λ (m : Machine). after_step m (Advance c.card.inside.owed)) (c.as_mut.ensures.value ∙ c.take_machine_without_owed_dots-held.ensures.machine)
+    ∙ ap (λ (m : Machine). after_step m (Advance c.card.inside.owed)) (c.as_mut.ensures.value ∙ c.take_out-held.ensures.kept)
     ∙ ap (λ (h : HandleState). after_step c.args.card.now.kept.machine (Advance h.owed)) c.card.view_is

@@ -6,7 +6,7 @@ use Rattle.vga_c.proofs.handle.take.Goals.{then-card-gt0, else-card-gt0}
 
 pub returns-clause-machine : goal.returns-clause-machine
 returns-clause-machine c =
-    c.take_machine_without_owed_dots.ensures.machine ∙ elim c.if-card-gt0.branch [
+    c.take_out.ensures.kept ∙ elim c.if-card-gt0.branch [
       | then-card-gt0 w ↦ nothing_owed c.dots_split.ensures.none c.if-card-gt0.card (ap (λ (h : HandleState). h.owed) w.card-is ∙ w.draw_owed.ensures.owed)
           ∙ ap machine_after_owed_dots w.card-is ∙ w.draw_owed.ensures.machine
       | else-card-gt0 w ↦ nothing_owed c.dots_split.ensures.none c.if-card-gt0.card (ap (λ (h : HandleState). h.owed) (w.card-is ∙ sym c.card.view_is)

@@ -4,8 +4,12 @@ ghost use Rattle.vga_host.specs.Graphics.{is_graphics};
 ghost use Rattle.vga_host.specs.Memory.Address.{is_memory_enabled as is_memory_enabled_of};
 ghost use Rattle.vga_host.specs.Memory.Address.{is_decoded, decoded_among, window_offset, window_start, window_len};
 ghost use Rattle.vga_host.specs.Memory.Address.{plane_offset, is_reached};
+ghost use Rattle.vga_host.specs.Memory.Access.{IsAccess};
+ghost use Rattle.vga_host.specs.OffsetRun.{is_in_run};
 
+use super::access::MemoryAccess;
 use crate::host::Host;
+use crate::offset_run::OffsetRun;
 use vga_bits::is_set;
 
 /// The plane that contains the glyphs of text.
@@ -70,5 +74,24 @@ impl Host {
             return None;
         }
         Some(access.offset(in_window))
+    }
+
+    /// Whether a write at an offset in the window reaches an offset of the run, or, in text, the plane
+    /// of glyphs.
+    #[inline(always)]
+    pub(super) fn reaches_run_or_glyphs(
+        &self,
+        access: MemoryAccess,
+        in_window: u16,
+        run: OffsetRun,
+    ) -> bool
+        requires { IsAccess access self.now }
+        ensures apart { result ≡ false
+            → is_in_run run (plane_offset self.now in_window) ≡ false }
+        ensures beside { result ≡ false → is_graphics self.now ≡ false
+            → is_reached self.now in_window 2 ≡ false }
+    {
+        run.contains(access.offset(in_window))
+            || (is_set(access.reached(in_window), PLANE_OF_GLYPHS) && !self.is_graphics())
     }
 }

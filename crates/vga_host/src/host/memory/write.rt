@@ -4,8 +4,9 @@ ghost use Rattle.std.specs.Prelude.{true, false, ◌+◌};
 ghost use Rattle.std.specs.Int.{bit_at};
 ghost use Rattle.vga_bits.specs.Four.{four_by_plane};
 ghost use Rattle.vga_host.specs.Memory.Access.{IsAccess};
-ghost use Rattle.vga_host.specs.Memory.Address.{is_decoded, window_offset};
-ghost use Rattle.vga_host.specs.Graphics.{bit_mask, set_reset, is_set_reset_enabled, write_mode};
+ghost use Rattle.vga_host.specs.Memory.Address.{is_decoded, window_offset, plane_offset, is_reached};
+ghost use Rattle.vga_host.specs.OffsetRun.{is_in_run};
+ghost use Rattle.vga_host.specs.Graphics.{bit_mask, set_reset, is_set_reset_enabled, write_mode, is_graphics};
 ghost use Rattle.vga_bits.specs.Words.{plane_bit_in_word};
 ghost use Rattle.vga_host.specs.Memory.Write.{rotated_write_bit, data_bit_of_write, mask_bit};
 ghost use Rattle.vga_host.specs.Memory.Write.{combined_bit};
@@ -14,6 +15,7 @@ ghost use Rattle.vga_host.specs.Memory.Write.{written_bit, written_byte, after_p
 use super::access::MemoryAccess;
 use crate::bytes::{combined, rotated_right};
 use crate::host::Host;
+use crate::offset_run::OffsetRun;
 use vga_bits::Refusal;
 use vga_planes::Latch;
 use vga_planes::plane_words::{byte_in_all_planes, mask_of_planes, merged_by_mask};
@@ -152,6 +154,36 @@ impl Host {
         self.planes.store(offset, bytes, set);
     }
 
+    /// Stores the bytes of two writes in turn, each in the planes that it reaches at its offset in
+    /// the window.
+    #[inline(always)]
+    fn store_word_in_window(
+        &mut self,
+        access: MemoryAccess,
+        first: u16,
+        low: Latch,
+        second: u16,
+        high: Latch,
+    )
+        requires { IsAccess access self.old }
+        ensures { (misc address v w : ℕ) → IsTrue (is_decoded self.old misc address)
+            → IsTrue (is_decoded self.old misc (address + 1))
+            → first ≡ window_offset self.old address
+            → second ≡ window_offset self.old (address + 1)
+            → low ≡ four_by_plane (λ p. written_byte self.old v p)
+            → high ≡ four_by_plane (λ p. written_byte self.old w p)
+            → self.new ≡ after_put (after_put self.old address v) (address + 1) w }
+    {
+        self.planes.store_in_turn(
+            access.offset(first),
+            low,
+            access.reached(first),
+            access.offset(second),
+            high,
+            access.reached(second),
+        );
+    }
+
     /// Writes a byte to an address of display memory. If the address is not decoded, the write is
     /// refused with `NotDecoded` and changes nothing. `misc` is the miscellaneous output register.
     ///
@@ -193,6 +225,39 @@ impl Host {
         true
     }
 
+    /// Writes a byte as `put_if_unchanged` does, if it is not stored at an offset of the run, nor, in
+    /// text, in the plane of glyphs. It serves speed alone: it is inlined, and calls nothing.
+    #[inline(always)]
+    pub fn put_if_unchanged_outside(
+        &mut self,
+        run: OffsetRun,
+        address: u32,
+        v: u8,
+        misc: u8,
+    ) -> bool
+        ensures done { result ≡ true → IsTrue (is_decoded self.old misc address)
+            × (self.new ≡ after_put self.old address v) }
+        ensures apart { result ≡ true
+            → is_in_run run (plane_offset self.old (window_offset self.old address)) ≡ false }
+        ensures beside { result ≡ true → is_graphics self.old ≡ false
+            → is_reached self.old (window_offset self.old address) 2 ≡ false }
+        ensures left { result ≡ false → self.new ≡ self.old }
+    {
+        let access = self.access();
+        if !access.stores_byte {
+            return false;
+        }
+        let Some(in_window) = access.in_window(address, misc) else {
+            return false;
+        };
+        if self.reaches_run_or_glyphs(access, in_window, run) {
+            return false;
+        }
+        let bytes = self.unchanged_bytes(v);
+        self.store_in_window(access, in_window, bytes);
+        true
+    }
+
     /// Writes two bytes to an address of display memory and the next one, if both are decoded and
     /// the writes are known to store their bytes unchanged. It returns whether it did; if not,
     /// nothing changes. It serves speed alone: it is inlined, and calls nothing.
@@ -215,9 +280,52 @@ impl Host {
             return false;
         };
         let low = self.unchanged_bytes(low);
-        self.store_in_window(access, first, low);
         let high = self.unchanged_bytes(high);
-        self.store_in_window(access, second, high);
+        self.store_word_in_window(access, first, low, second, high);
+        true
+    }
+
+    /// Writes two bytes as `put_word_if_unchanged` does, if neither is stored at an offset of the run,
+    /// nor, in text, in the plane of glyphs. It serves speed alone: it is inlined, and calls nothing.
+    #[inline(always)]
+    pub fn put_word_if_unchanged_outside(
+        &mut self,
+        run: OffsetRun,
+        address: u32,
+        low: u8,
+        high: u8,
+        misc: u8,
+    ) -> bool
+        requires { address < 4294967295 }
+        ensures done { result ≡ true → IsTrue (is_decoded self.old misc address)
+            × IsTrue (is_decoded self.old misc (address + 1))
+            × (self.new ≡ after_put (after_put self.old address low) (address + 1) high) }
+        ensures apart { result ≡ true
+            → (is_in_run run (plane_offset self.old (window_offset self.old address)) ≡ false)
+            × (is_in_run run (plane_offset self.old (window_offset self.old (address + 1))) ≡ false) }
+        ensures beside { result ≡ true → is_graphics self.old ≡ false
+            → (is_reached self.old (window_offset self.old address) 2 ≡ false)
+            × (is_reached self.old (window_offset self.old (address + 1)) 2 ≡ false) }
+        ensures left { result ≡ false → self.new ≡ self.old }
+    {
+        let access = self.access();
+        if !access.stores_byte {
+            return false;
+        }
+        let Some(first) = access.in_window(address, misc) else {
+            return false;
+        };
+        let Some(second) = access.in_window(address + 1, misc) else {
+            return false;
+        };
+        if self.reaches_run_or_glyphs(access, first, run)
+            || self.reaches_run_or_glyphs(access, second, run)
+        {
+            return false;
+        }
+        let low_bytes = self.unchanged_bytes(low);
+        let high_bytes = self.unchanged_bytes(high);
+        self.store_word_in_window(access, first, low_bytes, second, high_bytes);
         true
     }
 }

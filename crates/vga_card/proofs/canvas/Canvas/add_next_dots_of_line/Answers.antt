@@ -1,5 +1,5 @@
 use Rattle.std.proofs.Common.{◌≡◌, ℕ, ◌*◌, ◌<◌, ◌≤◌, ◌++◌, List, length, take, replicate, sym, ap, ◌∙◌, arith}
-use Rattle.std.proofs.lemmas.List.{get_or_read, length-take}
+use Rattle.std.proofs.lemmas.List.{length-take}
 use Rattle.vga_crtc.specs.declared.beam.Beam.{Beam}
 use Rattle.vga_host.specs.Sequencer.{character_width}
 use Rattle.vga_card.specs.Picture.{Dot}
@@ -16,9 +16,9 @@ append_next_dots-requires-clause-room g c =
     let v = c.beam-line.result.line in
     let n = c.args.count in
     let here = ap (λ (b : Beam). b.line) c.beam-line.ensures.value in
-    let room = line_shown _ _ a.widths.items a.line v n c.self.view_is (omega (arith, here, c.requires.lines)) (omega (arith, here, c.requires.after))
+    let room = line_shown _ _ a.widths a.line v n c.self.view_is (omega (arith, here, c.requires.lines)) (omega (arith, here, c.requires.after))
     (omega (arith, c.requires.count)) (λ same. c.requires.room (sym here ∙ same)) in
-    omega (arith, bytes_fit a.buffer.cap bytes a.widths.items a.line v n c.self.invariant.1 room, length-take a.used a.buffer.items)
+    omega (arith, bytes_fit a.buffer.cap bytes a.widths a.line v n c.self.invariant.1 room, length-take a.used a.buffer.items)
 
 pub invariant_of-self : goal.invariant_of-self
 invariant_of-self g c =
@@ -30,15 +30,14 @@ invariant_of-self g c =
     let row = take (3 * n) drawn.row in
     let here = ap (λ (b : Beam). b.line) c.beam-line.ensures.value in
     let long : length row ≡ 3 * n = omega (arith, length-take (3 * n) drawn.row, drawn.long) in
-    let within : v < length a.widths.items = omega (arith, here) in
-    let was = get_or_read a.widths.items v c.index_mut-width.result.now within c.index_mut-width.ensures.value 0 in
-    let room = line_shown _ _ a.widths.items a.line v n c.self.view_is (omega (arith, here, c.requires.lines)) (omega (arith, here, c.requires.after))
+    let within : v < length a.widths = omega (arith, here) in
+    let room = line_shown _ _ a.widths a.line v n c.self.view_is (omega (arith, here, c.requires.lines)) (omega (arith, here, c.requires.after))
     (omega (arith, c.requires.count)) (λ same. c.requires.room (sym here ∙ same)) in
     let whole = drawn.whole in
-    rw (whole, was) (
+    rw (whole, c.add.ensures) (
       c.append_next_dots.ensures.len,
       roomier a.buffer.cap _ _ _ _ c.append_next_dots.ensures.capacity
-          (canvas_more a.buffer.cap bytes row a.widths.items a.line v n c.self.invariant.1 room long),
+          (canvas_more a.buffer.cap bytes row a.widths a.line v n c.self.invariant.1 room long),
     )
 
 pub returns-clause-dots : goal.returns-clause-dots
@@ -50,16 +49,15 @@ returns-clause-dots g c =
     let n = c.args.count in
     let row = take (3 * n) drawn.row in
     let here = ap (λ (b : Beam). b.line) c.beam-line.ensures.value in
-    let within : v < length a.widths.items = omega (arith, here) in
-    let was = get_or_read a.widths.items v c.index_mut-width.result.now within c.index_mut-width.ensures.value 0 in
+    let within : v < length a.widths = omega (arith, here) in
     let after : a.line ≤ v = omega (arith, here, ap (λ (s : CanvasState). s.line) c.self.view_is) in
     let later = λ (j : ℕ) (l : v < j). c.self.invariant.1.later j (omega arith) in
     let whole = drawn.whole in
     let old = c.args.self.now.dots in
     let width : 0 < character_width c.args.display.now.host = wide _ in
     let some : 0 < g.row.CW = omega (arith, width, c.requires.width) in
-    rw (whole, was)
-    (stored_line a.widths.items bytes row v n within later c.self.invariant.1.counted
+    rw (whole, c.add.ensures)
+    (stored_line a.widths bytes row v n within later c.self.invariant.1.counted
     ∙ ap (λ (s : CanvasState). s.dots ++ dots_of_bytes (replicate n v) row) c.self.view_is
     ∙ ap (λ (x : List Dot). old ++ x) (appended_part c.args.display.now g.row.CW c.requires.width some n v drawn.row drawn.blank c.requires.shown
     c.requires.inside here drawn.drawn drawn.long))

@@ -2,7 +2,6 @@ use Rattle.std.proofs.Common.{◌≡◌, ◌∙◌, ℕ, List, length, ap, arith
 use Rattle.vga_bits.proofs.SavedLemmas.{length-words_in}
 use Rattle.vga_card.specs.Canvas.{stored_dots}
 use Rattle.vga_card.specs.Saved.{saved_dots_from, widths_from_saved_bytes}
-use Rattle.vga_card.proofs.CanvasLemmas.{written_back}
 use Rattle.vga_card.proofs.SavedLemmas.{canvas_restored, drawn_restored, restored_fits}
 use Rattle.vga_card.proofs.canvas.Canvas.restore.Goals as goal
 
@@ -25,11 +24,10 @@ invariant_of-self c =
     let bytes = c.args.bytes.now in
     let dots = c.requires.dots in
     let count = widths_count bytes in
-    let whole : length c.restore_widths.new.widths ≡ a.widths.len = omega (arith, ap length c.as_mut_slice.ensures.value) in
     let restored = canvas_restored _ c.split_at.result.1.now (widths_from_saved_bytes bytes) c.args.beam c.min-self-inside.result
     (omega (arith, c.self.invariant.1.room, c.restore_bytes.ensures.capacity)) count dots.few
     (ap length c.split_at.ensures.back ∙ dots.counted) (omega arith) in
-    rw (written_back a.widths.len c.restore_widths.new.widths a.widths.items whole, c.restore_widths.ensures, c.restore_bytes.ensures.prefix)
+    rw (c.restore.ensures, c.restore_bytes.ensures.prefix)
     (c.restore_bytes.ensures.len, restored)
 
 pub returns-clause-dots : goal.returns-clause-dots
@@ -37,14 +35,12 @@ unfolding saved_dots_from
 returns-clause-dots c =
     let a = c.self.inside in
     let bytes = c.args.bytes.now in
-    let whole : length c.restore_widths.new.widths ≡ a.widths.len = omega (arith, ap length c.as_mut_slice.ensures.value) in
-    rw (written_back a.widths.len c.restore_widths.new.widths a.widths.items whole, c.restore_widths.ensures, c.restore_bytes.ensures.prefix)
+    rw (c.restore.ensures, c.restore_bytes.ensures.prefix)
     (ap (stored_dots (widths_from_saved_bytes bytes)) c.split_at.ensures.back)
 
 pub returns-clause-drawn : goal.returns-clause-drawn
 returns-clause-drawn c =
     let a = c.self.inside in
     let bytes = c.args.bytes.now in
-    let whole : length c.restore_widths.new.widths ≡ a.widths.len = omega (arith, ap length c.as_mut_slice.ensures.value) in
-    rw (written_back a.widths.len c.restore_widths.new.widths a.widths.items whole, c.restore_widths.ensures)
+    rw (c.restore.ensures)
     (drawn_restored (widths_from_saved_bytes bytes) c.args.beam c.min-self-inside.result c.requires.dots.few (omega arith))

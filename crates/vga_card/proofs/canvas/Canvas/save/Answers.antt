@@ -11,6 +11,6 @@ returns-clause-put c =
     let a = c.self.inside in
     subst (λ (l : List ℕ). IsPut c.args.out.now c.put_bytes.new.out c.args.at c.put_bytes.result l)
     (ap (λ (l : List ℕ). flat_map word_bytes l ++ c.bytes.result.now) c.as_slice.ensures.value
-    ∙ ap (λ (l : List ℕ). flat_map word_bytes a.widths.items ++ l) c.bytes.ensures.value
-    ∙ dots_bytes a.widths.items _ c.args.self.now.dots c.self.invariant.1.lines (ap (λ (s : CanvasState). s.dots) c.self.view_is))
+    ∙ ap (λ (l : List ℕ). flat_map word_bytes a.widths ++ l) c.bytes.ensures.value
+    ∙ dots_bytes a.widths _ c.args.self.now.dots c.self.invariant.1.lines (ap (λ (s : CanvasState). s.dots) c.self.view_is))
     (put_behind c.put_widths-at.ensures.put c.put_bytes.ensures.put)

@@ -7,7 +7,7 @@ use Rattle.vga_card.proofs.canvas.Canvas.widths.Goals as goal
 pub returns-clause-value : goal.returns-clause-value
 returns-clause-value c =
     let a = c.self.inside in
-    c.as_slice.ensures.value ∙ sym (widths_are a.widths.items (take a.used a.buffer.items) c.self.invariant.1.lines)
+    c.as_slice.ensures.value ∙ sym (widths_are a.widths (take a.used a.buffer.items) c.self.invariant.1.lines)
     ∙ ap (λ (s : CanvasState). line_widths s.dots) c.self.view_is
 
 pub returns-clause-count : goal.returns-clause-count

@@ -22,5 +22,5 @@ returns-in-Ok-clause-put c =
     λ place. ap (λ (a : CardStateWithoutBeamAndDots). is_decoded a.host a.misc place) (same_adapter c.args.n s) in
     let low : (let w : WriteResult = (mid, Ok tt) in w) ≡ put_cycle start address (c.args.v % 256) =
     ap (λ r. let w : WriteResult = (mid, r) in w) (sym c.in-Ok.is) ∙ c.put_with_dots_owed-left.ensures.put ∙ ap (put_cycle start address) c.bytes_of-low.ensures.low in
-    word_put start mid new c.put_with_dots_owed.result.1 address c.args.v few (later address ∙ both.0) (later (address + 1) ∙ both.1) low
+    word_put start mid new c.put_with_dots_owed.result.2 address c.args.v few (later address ∙ both.0) (later (address + 1) ∙ both.1) low
     (c.put_with_dots_owed.ensures.put ∙ ap (put_cycle mid (address + 1)) c.bytes_of-low.ensures.high)

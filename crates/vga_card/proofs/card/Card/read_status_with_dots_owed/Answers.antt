@@ -9,8 +9,8 @@ use Rattle.vga_card.specs.Dots.{character_width, dots}
 use Rattle.vga_card.proofs.OwedLemmas.{cleared, status_now}
 use Rattle.vga_card.proofs.card.Card.read_status_with_dots_owed.Goals as goal
 
-pub returns : goal.returns
-returns c = λ port reached.
+pub returns-clause-read : goal.returns-clause-read
+returns-clause-read c = λ port reached.
     let a = c.self.inside in
     let card : CardState = record { host = a.host; crtc = a.crtc; attr = a.attr; dac = a.dac; misc = a.misc; drawn = a.canvas.dots } in
     let s = c.args.self.now in

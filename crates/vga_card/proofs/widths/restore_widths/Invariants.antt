@@ -1,6 +1,6 @@
 use Rattle.std.proofs.Common.{◌≡◌, take}
 use Rattle.vga_bits.specs.Saved.{first_words}
-use Rattle.vga_card.proofs.canvas.saved.restore_widths.Given as goal
+use Rattle.vga_card.proofs.widths.restore_widths.Given as goal
 
 -- the first widths are the first words
 abbrev pub invariant-loop-line : goal.invariant-loop-line

@@ -3,7 +3,7 @@ use Rattle.std.proofs.lemmas.List.{take_all}
 use Rattle.vga_bits.specs.Saved.{first_words}
 use Rattle.vga_bits.proofs.SavedLemmas.{words_taken}
 use Rattle.vga_card.specs.Saved.{widths_from_saved_bytes}
-use Rattle.vga_card.proofs.canvas.saved.restore_widths.Goals as goal
+use Rattle.vga_card.proofs.widths.restore_widths.Goals as goal
 
 pub loop-line-init : goal.loop-line-init
 unfolding first_words
