@@ -39,6 +39,7 @@ from .compilers import (
     laid_library,
     make_check,
     not_there,
+    tell_left_out,
 )
 from .one_file import Maker, check_file, checks_for, lacking_for, windows_in
 
@@ -89,8 +90,10 @@ def _run_portable(words: argparse.Namespace, progress: Progress) -> None:
         if target == WINDOWS:
             stack.enter_context(windows_in(Path(folder)))
         maker = Maker(Path(folder), target)
+        left_out = []
         for name, check in wanted.items():
-            make_check(f"{name}, as one C file", partial(check, maker))
+            left_out += make_check(f"{name}, as one C file", partial(check, maker))
+        tell_left_out(left_out)
 
 
 def _wanted(only: Sequence[str], target: Target) -> dict[str, Check]:
@@ -122,9 +125,11 @@ def run_checks(words: argparse.Namespace, progress: Progress) -> None:
         backends = target.backends[:1] if words.archive else target.backends
         libraries = [laid_library(words, backend, target, Path(top), heard) for backend in backends]
         progress.clear()
+        left_out = []
         for name, built in (
             (name, built) for name in wanted for built in libraries[: None if name in EACH else 1]
         ):
             with tempfile.TemporaryDirectory(prefix="vga-library-tests-") as folder:
                 work = partial(wanted[name], built, Path(folder))
-                make_check(f"{name}, {built.name}" if name in EACH else name, work)
+                left_out += make_check(f"{name}, {built.name}" if name in EACH else name, work)
+        tell_left_out(left_out)

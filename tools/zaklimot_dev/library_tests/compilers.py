@@ -10,6 +10,7 @@ from pathlib import Path
 from typing import Any, Callable, Iterable, NamedTuple, Sequence
 
 from zaklimot.commands.core.processes import BINUTILS, SOURCES, Hearer, Word, captured, tested
+from zaklimot.commands.core.streams import counted
 from zaklimot_dev.library.making import (
     AARCH64,
     MOVING,
@@ -24,6 +25,8 @@ from zaklimot_dev.library.making import (
 
 
 STRICT = ("-Wall", "-Wextra", "-Wpedantic", "-Wconversion", "-Werror")
+# How that begins what a check tells which this machine can't make.
+LEFT_OUT = "left out: "
 SANITIZED = ("-g", "-fsanitize=address,undefined", "-fno-sanitize-recover=all")
 
 
@@ -97,11 +100,19 @@ def run(words: Sequence[str | Path], **given: Any) -> str:
     return tested(words, **given).output.decode("utf-8", "surrogateescape")
 
 
-def make_check(name: str, check: Callable[[], str]) -> None:
-    """Makes a check, and tells what came of it, and how many seconds it took."""
+def make_check(name: str, check: Callable[[], str]) -> list[str]:
+    """Makes a check, and tells what came of it, and how many seconds it took. Answers its name if
+    it was left out, and else none."""
     begun = time.monotonic()
     told = check()
     print(f"{name}: {told} ({time.monotonic() - begun:.0f} s)", flush=True)
+    return [name] if told.startswith(LEFT_OUT) else []
+
+
+def tell_left_out(names: Sequence[str]) -> None:
+    """Counts the checks that were left out, if there are any."""
+    if names:
+        print(f"{counted(len(names), 'check')} left out: {', '.join(names)}", flush=True)
 
 
 def not_there(programs: Iterable[str]) -> list[str]:

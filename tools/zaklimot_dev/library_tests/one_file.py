@@ -37,6 +37,7 @@ from .checks import (
     names_in,
 )
 from .compilers import COMPILERS, RUNNERS, SANITIZED, Built, Compiler, build, not_there, run
+from .emulators import check_dosbox, check_qemu
 
 # All that a compiler may find in the file, but for conversions in what was generated, is an error.
 STRICT = ("-std=c99", "-Wall", "-Wextra", "-Wpedantic", "-Werror")
@@ -214,6 +215,9 @@ HOST: dict[str, Check] = {
     "memory": check_memory,
     "threads": _by(check_threads),
     "examples": _by(check_examples),
+    # Emulators that have the file in them.
+    "dosbox": lambda maker: check_dosbox(maker.folder),
+    "qemu": lambda maker: check_qemu(maker.folder),
 }
 
 

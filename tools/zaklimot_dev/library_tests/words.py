@@ -42,6 +42,8 @@ CHECKS = (
     "threads",
     "compilers",
     "checked",
+    "dosbox",
+    "qemu",
     "file",
     "one",
 )

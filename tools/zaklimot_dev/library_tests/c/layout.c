@@ -11,10 +11,11 @@
 
 TAKES(zak_status, 4);
 
-TAKES(zak_card, 16);
+TAKES(zak_card, 24);
 LIES(zak_card, is_open, 0);
 LIES(zak_card, owed, 4);
-LIES(zak_card, machine, 8);
+LIES(zak_card, line, 8);
+LIES(zak_card, machine, 16);
 
 TAKES(zak_size, 8);
 LIES(zak_size, height, 4);
