@@ -1,4 +1,4 @@
-; Mode 13 with nothing in it: colour 0 is another one in each line, set while the line before it ends.
+; Colour bars. Mode 13 with nothing in it: colour 0 is another one in each line, set while the line before it ends.
 %include "video.inc"
 
 LINES   equ 400

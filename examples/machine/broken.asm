@@ -1,5 +1,5 @@
-; Mode 12: four boxes with a mistake in them. Only the first line of a box is whole; the others have gaps. Pause,
-; click a dot below a first line, and ask for the step that changed it last.
+; Boxes with a mistake. Mode 12: only the first line of a box is whole; the others have gaps. Pause, click a dot
+; below a first line, and ask for the step that changed it last.
 %include "video.inc"
 
 ROW     equ 80

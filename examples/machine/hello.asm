@@ -1,4 +1,4 @@
-; Text in three ways: by DOS, by the video BIOS, and straight into memory. A key ends it.
+; Text in three ways. By DOS, by the video BIOS, and straight into memory. A key ends it.
 %include "video.inc"
 
         mode 3

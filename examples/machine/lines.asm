@@ -1,4 +1,4 @@
-; Mode 12: lines from each random place to the next, dot by dot: set/reset has the colour, bit mask the dot.
+; Lines without end. Mode 12: from each random place to the next, dot by dot: set/reset has the colour, bit mask the dot.
 %include "video.inc"
 
 ROW     equ 80

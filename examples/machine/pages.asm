@@ -1,4 +1,5 @@
-; 320 by 240 dots in 256 colours, without chain 4: a box moves on two pages, which change places in the retrace.
+; A box on two pages. 320 by 240 dots in 256 colours, without chain 4: it moves, and the pages change places in the
+; retrace.
 %include "video.inc"
 
 ROW     equ 80

@@ -1,4 +1,4 @@
-; Mode 13: each dot is the sum of waves across and down, and the colours turn.
+; Plasma. Mode 13: each dot is the sum of waves across and down, and the colours turn.
 %include "video.inc"
 
         mode 13h

@@ -1,5 +1,5 @@
-; Mode 0D over rows twice as wide: the upper part glides by start address and panning, the lower one stands still
-; below line compare.
+; A split screen. Mode 0D over rows twice as wide: the upper part glides by start address and panning, the lower one
+; stands still below line compare.
 %include "video.inc"
 
 ROW     equ 80

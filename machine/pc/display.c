@@ -48,6 +48,7 @@ void begin_display(u32 the_card, u32 the_room)
     sequencer_index = graphics_index = UNKNOWN;
     forget_held();
     taken_block = NO_BLOCK;
+    begin_colours();
 }
 
 /* The adapter has all writes. */
@@ -237,5 +238,6 @@ void video(void)
     DX = call_registers[3];
     forget_clock();
     for (int i = 0; i < CALL_TIME; i++) pass_cycle();
+    load_colours(given[0], given[1]);
     if (sets_mode) note_mode();
 }

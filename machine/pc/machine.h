@@ -98,6 +98,10 @@ void display_out_word(u32 port, u32 value);
 void video(void);
 void begin_display(u32 the_card, u32 the_room);
 
+/* colours.c: the palette of mode 13 that PCs' BIOSes load. */
+void begin_colours(void);
+void load_colours(u32 ax, u32 bx);
+
 /* waits.c: loops that wait for a bit of input status 1. */
 void pass_wait(u32 value);
 

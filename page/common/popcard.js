@@ -11,10 +11,12 @@ export class PopCard {
   #body = element("div");
   #opener = null;
   #heard;
+  #free;
 
-  /** `heard` is called once the card is closed. */
-  constructor(id, heard = () => {}) {
+  /** `heard` is called once the card is closed. Where there is room, it does not cover an element, `free`. */
+  constructor(id, heard = () => {}, free = null) {
     this.#heard = heard;
+    this.#free = free;
     const close = element("button", { type: "button", "aria-label": "close this card",
       className: "close", onclick: () => this.close() }, "×");
     this.root = element("section", { id, className: "popcard", hidden: true, role: "dialog" },
@@ -55,8 +57,14 @@ export class PopCard {
     const { width, height } = this.root.getBoundingClientRect();
     const isRoom = x + GAP + width + EDGE <= innerWidth;
     const left = isRoom ? x + GAP : Math.max(EDGE, x - GAP - width);
-    const top = Math.max(EDGE, Math.min(y - height / 3, innerHeight - height - EDGE));
+    const top = Math.max(EDGE, Math.min(y - height / 3, this.#floorFor(y, height) - height - EDGE));
     Object.assign(this.root.style, { left: `${Math.round(left)}px`, top: `${Math.round(top)}px` });
+  }
+
+  /** How far down a card of some height may reach: to what is to be free, where the card has room above it. */
+  #floorFor(y, height) {
+    const free = this.#free?.getBoundingClientRect().top ?? innerHeight;
+    return y < free && free >= height + 2 * EDGE ? Math.min(free, innerHeight) : innerHeight;
   }
 
   /** Closes the card; what had the keys before gets them again, unless the pointer is elsewhere. */

@@ -8,9 +8,13 @@ export class Scroller {
   seen = 0;
   isAsked = false;
 
-  /** `heard` is called when the box is scrolled, or has another height. */
-  constructor(box, heard) {
+  /**
+   * `heard` is called when the box is scrolled, or has another height. `place` scrolls it, so that what is in sight
+   * then is drawn at once.
+   */
+  constructor(box, heard, place = top => { box.scrollTop = top; }) {
     this.box = box;
+    this.place = place;
     box.addEventListener("scroll", () => {
       const { top, left } = this;
       // The event of a frame before must not undo what was asked for since then.
@@ -22,6 +26,12 @@ export class Scroller {
       this.seen = box.clientHeight;
       heard();
     }).observe(box);
+  }
+
+  /** Asks the browser where it is, since it may have been out of the page. */
+  find() {
+    this.top = this.box.scrollTop;
+    this.seen = this.box.clientHeight;
   }
 
   /** How high it is, for which the browser is asked only until it has told so itself. */
@@ -39,7 +49,7 @@ export class Scroller {
     this.isAsked = true;
     requestAnimationFrame(() => {
       this.isAsked = false;
-      this.box.scrollTop = this.top;
+      this.place(this.top);
     });
   }
 }

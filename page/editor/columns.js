@@ -42,11 +42,12 @@ export class Columns {
 
   #fillAnswer(made, line, state) {
     const step = stepOfLine(line, state), isLater = step >= state.steps;
-    if (isWritten(made, state.session, step, isLater)) return;
-    const { text, title, className } = step < 0 ? { text: "", title: "", className: "answer" }
+    const isHere = state.mark === line && !state.bad;
+    if (isWritten(made, state.session, step, isLater, isHere)) return;
+    const { text, title, className } = step < 0 ? { text: "", title: "", className: "answer nothing" }
       : answerOf(step, isLater, state.session);
     setText(made, text);
-    setAll(made, { title, className });
+    setAll(made, { title, className: classesOf(className, isHere && "here") });
   }
 }
 
@@ -67,12 +68,13 @@ function answerOf(step, isLater, session) {
   const { outline } = session, entry = outline.entryOf(step);
   const answer = session.answerOf(step), expected = outline.expectedOf(entry);
   const words = outline.wordsOf(entry), [first, ...more] = shortAnswer(answer, words).split("\n");
-  const isWrong = expected !== null && session.isWrong(step);
-  const sign = expected === null ? "" : isWrong ? "✗ " : "✓ ", text = sign + first + (more.length ? " …" : "");
+  const isWrong = expected !== null && session.isWrong(step), whole = first + (more.length ? " …" : "");
+  // What is expected stands in the line, and a plain answer repeats its words.
+  const text = isWrong ? `✗ ${whole}` : expected !== null ? "✓" : isPlainAnswer(answer, words) ? "" : whole;
   return {
     text,
     title: `step ${step + 1}: ${answer}` + (isWrong ? `\nexpected: ${expected}` : ""),
-    className: classesOf("answer", isLater && "later", isRefusal(answer) && "refused",
-      isPlainAnswer(answer, words) && "plain", text.length > SHORT && "long", sign && (isWrong ? "wrong" : "right")),
+    className: classesOf("answer", !text && "nothing", isLater && "later", isRefusal(answer) && "refused",
+      isPlainAnswer(answer, words) && "plain", text.length > SHORT && "long", expected !== null && (isWrong ? "wrong" : "right")),
   };
 }

@@ -2,10 +2,10 @@
 // of JSON { time, name } and the text. Several pages may use one storage at a time.
 
 const PREFIX = "zaklimot-script-";
-// Browsers give an address two and a half million characters, or more.
-const MOST_DRAFTS = 20, MOST_TOGETHER = 2000000, MUCH_MORE = 256;
+// Chromium and Firefox give an address five million characters. Where there is less room, the oldest scripts go.
+const MOST_DRAFTS = 20, MOST_TOGETHER = 3500000, MUCH_MORE = 256;
 /** A script of more characters is not kept. */
-export const LONGEST_KEPT = 500000;
+export const LONGEST_KEPT = 2000000;
 const MOST_TITLE = 60, SEARCHED = 4000;
 
 /** What a script is called in a list: its first comment, or else its first line. */

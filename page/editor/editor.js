@@ -49,8 +49,8 @@ export class Editor {
       event.preventDefault();
       this.turn(way);
     });
-    this.boxes = [this.field.scroller, byId("long")]
-      .map(box => new Scroller(box, () => this.draw()));
+    this.boxes = [new Scroller(this.field.scroller, () => this.draw(), top => this.field.scrollTo(top)),
+      new Scroller(byId("long"), () => this.draw())];
     new ResizeObserver(() => this.field.refresh()).observe(byId("page"));
     byId("why").firstElementChild.addEventListener("click", () => this.#toBad());
   }

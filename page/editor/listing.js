@@ -62,6 +62,12 @@ export class Listing {
     this.draw();
   }
 
+  /** Shows the same after the list was out of the page. */
+  opened() {
+    this.box.find();
+    if (this.session) this.show(this.session, this.steps);
+  }
+
   /** Names the columns: cycles of a call have no line. */
   nameHeads({ noun, isCall }) {
     const [number, line] = byId("listhead").children;

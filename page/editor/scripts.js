@@ -27,6 +27,9 @@ function timeText(time) {
   return new Date(time).toLocaleString([], parts);
 }
 
+/** What a program shows, in few words: the first sentence of what it is about. */
+const titleOfProgram = about => about.split(".", 1)[0];
+
 /**
  * The scripts. Each is { name, about, isExample, id }: under its id the user's own is kept, and
  * other scripts have none. `tell` says something that stays. `programs` stand in the list too, and
@@ -62,14 +65,14 @@ export class Scripts {
     const runs = this.runs().map(({ id, title, time }) => new Option(`${title} · ${timeText(time)}`, RUN + id));
     const group = (label, options) => element("optgroup", { label }, ...options);
     list.replaceChildren(...this.#program ? [new Option(this.#program, NOW)] : [], new Option("your own script", ""),
+      ...this.programs.length ? [group("Programs that run", this.programs
+        .map(({ name, about }) => new Option(`${titleOfProgram(about)} · ${name}`, PROGRAM + name)))] : [],
       ...kept.length ? [group("Your last scripts", kept)] : [],
       ...runs.length ? [group("Your last runs", runs)] : [],
       group("Tutorial", this.examples.filter(({ title }) => title)
         .map(({ name, title }) => new Option(title, name))),
       group("Examples", this.examples.filter(({ title }) => !title)
-        .map(({ name }) => new Option(name, name))),
-      ...this.programs.length ? [group("Programs that run", this.programs
-        .map(({ name }) => new Option(name, PROGRAM + name)))] : []);
+        .map(({ name }) => new Option(name, name))));
     this.choose();
   }
 

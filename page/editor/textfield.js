@@ -202,6 +202,11 @@ export class TextField {
     this.cm.scrollIntoView(null, 2 * this.cm.defaultTextHeight());
   }
 
+  /** Scrolls to a place, and draws the lines there before the browser tells that it has scrolled. */
+  scrollTo(top) {
+    this.cm.scrollTo(null, top);
+  }
+
   /** Measures the lines anew. */
   refresh() {
     this.cm.refresh();

@@ -3,7 +3,7 @@
 import { PopCard } from "../common/popcard.js";
 import { GROUPS } from "../script/registers.js";
 import { Trouble } from "../common/trouble.js";
-import { cssColour, element, selectOf } from "../common/dom.js";
+import { byId, cssColour, element, selectOf } from "../common/dom.js";
 import { DotSearch, dotOfSeen } from "./dotsearch.js";
 import { heldSource } from "./holding.js";
 import { rowsOfDot } from "./dotrows.js";
@@ -21,7 +21,7 @@ const MOST_ASIDE = 160;
 /** The cards of dots and of other subjects. */
 export class Asking {
   #heard;
-  #card = new PopCard("asked");
+  #card = new PopCard("asked", undefined, byId("slider"));
   #told = element("div");
   /** What is asked about: the words of a subject, and of a dot its place. */
   #words = "";

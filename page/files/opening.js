@@ -8,7 +8,7 @@ import { entriesOfDrop, filesOfEntries } from "./folders.js";
 import { bytesOfFiles, contentsOf, printedText, readFragment } from "./share.js";
 
 /** What the page shows first. */
-const FIRST_EXAMPLE = "text-by-services";
+const FIRST_EXAMPLE = "copper-bars";
 
 /**
  * Has files handed to `opened` that are chosen, or dropped anywhere in the page; with what is dropped as
@@ -124,7 +124,7 @@ export class Opener {
     const scripts = this.#scripts, { open, examples } = this.#data;
     if (!open) {
       const example = scripts.example(FIRST_EXAMPLE) ?? scripts.example(examples[0].name);
-      return scripts.last ?? { ...example, isAsked: true };
+      return scripts.last ?? { ...example, isAsked: true, isFirst: true };
     }
     if (open.fonts) this.#heard.fonts(bytesOfBase64(open.fonts));
     const text = open.text ?? printedText(bytesOfBase64(open.bytes), this.#heard.adapter());

@@ -9,11 +9,12 @@ const CRTC_INDEXES = [0x3b4, 0x3d4];
 // How many registers the sequencer and the CRT controller have. Of some of the latter, bits and the
 // value that these must have.
 const SEQUENCER_COUNT = 5, CRTC_COUNT = 25, WANTED = { 20: [0x20, 0], 23: [0x0f, 3] };
-// Horizontal total, vertical total and overflow, which shape a frame; vertical retrace end, whose
-// bit protects the registers below 8.
-const SHAPE = [0, 6, 7], RETRACE_END = 17, PROTECTS = 0x80, PROTECTED_BELOW = 8;
+// Vertical retrace end, whose bit protects the registers below 8.
+const RETRACE_END = 17, PROTECTS = 0x80, PROTECTED_BELOW = 8;
+// No monitor of a VGA shows frames that are shorter than so many seconds: registers are being written.
+const SHORTEST = 0.008;
 // What a mode set by interrupt 10 leaves: miscellaneous output, clocking mode, and the registers of
-// the CRT controller. python/zaklimot/commands/explain/clocks.py has the same.
+// the CRT controller. The crate bios_modes has the same.
 const textMode = underline =>
   "5F4F50825581BF1F004F0D0E000000009C8E8F28" + underline + "96B9A3FF";
 const SET_MODE = {
@@ -30,13 +31,11 @@ export const LEAST_PAUSE = 30n;
 
 /** The registers on which a frame's time hangs, as far as a trace's steps have written them. */
 export class TimingRegisters {
-  misc = null;
+  misc = 0;
   seq = new Uint8Array(8);
   crtc = new Uint8Array(32);
   seqIndex = 0;
   crtcIndex = 0;
-  /** The registers of the CRT controller that were written, by themselves or by a mode set. */
-  written = new Set();
 
   /** Takes a step: { name, isPort, isWord, address, value }, or a call: { name, mode }, mode being AX. */
   take({ name, isWord, address, value, mode }) {
@@ -83,7 +82,6 @@ export class TimingRegisters {
     this.misc = misc;
     this.seq[CLOCKING] = clocking;
     this.crtc.set(crtc.match(/../g).map(byte => parseInt(byte, 16)));
-    for (const register of SHAPE) this.written.add(register);
   }
 
   write(port, value) {
@@ -100,17 +98,16 @@ export class TimingRegisters {
   }
 
   writeCrtc(value) {
-    const { crtc, crtcIndex, written } = this;
+    const { crtc, crtcIndex } = this;
     if (!this.takesCrtc(crtcIndex, value)) return;
     if (crtcIndex < PROTECTED_BELOW && crtc[RETRACE_END] & PROTECTS) return;
     crtc[crtcIndex] = value;
-    written.add(crtcIndex);
   }
 
-  /** The dots of a frame and those of a second; null where the steps have chosen none. */
+  /** The dots of a frame and those of a second; null where the registers are those of no frame that is shown. */
   get speed() {
-    if (this.misc === null || !SHAPE.every(register => this.written.has(register))) return null;
-    return frameSpeed(this);
+    const speed = frameSpeed(this);
+    return speed.dots / speed.rate < SHORTEST ? null : speed;
   }
 }
 

@@ -6,8 +6,6 @@ import { element } from "../common/dom.js";
 import { frameSpeed } from "../run/state.js";
 import { readReport } from "../run/report.js";
 
-// Of a clock that isn't known, 70 frames a second.
-const USUAL_FRAME = 1 / 70;
 const MOST_FRAMES = 2000, MOST_PACKED = 1 << 28, MOST_SAVED = 1 << 28;
 
 /** Hands a file to the browser to be saved. */
@@ -45,8 +43,8 @@ export function pngOfSeen(seen) {
 
 /** How long a frame lasts by the clock that the registers select, in seconds. */
 export function frameSeconds(registers) {
-  const speed = frameSpeed(registers);
-  return speed ? speed.dots / speed.rate : USUAL_FRAME;
+  const { dots, rate } = frameSpeed(registers);
+  return dots / rate;
 }
 
 /**

@@ -8,11 +8,15 @@ import { TextFinder } from "../editor/textfinder.js";
 import { Tip } from "./tip.js";
 import { byId } from "../common/dom.js";
 
-/** The help over an editor and a runner. `data`: what the page was built with. */
+/**
+ * The help over an editor and a runner. `data`: what the page was built with. `opening` hears that the search in
+ * steps is opened.
+ */
 export class Helper {
-  constructor(editor, runner, data) {
+  constructor(editor, runner, data, opening) {
     const { field } = editor;
     this.editor = editor;
+    this.opening = opening;
     this.sections = new Sections(data.sections, data.pages);
     this.textFinder = new TextFinder(editor);
     this.stepFinder = new StepFinder(runner);
@@ -21,12 +25,17 @@ export class Helper {
     this.language = new Language(text => editor.insertLines(text), data.pages);
     const clicks = {
       findtext: () => this.textFinder.open(),
-      findsteps: () => this.stepFinder.open(),
+      findsteps: () => this.#openSteps(),
       language: () => this.language.open(editor.lineText(editor.line)),
     };
     for (const [name, does] of Object.entries(clicks)) byId(name).addEventListener("click", does);
     // Before the other keys of the page, and before those of the field.
     document.addEventListener("keydown", event => this.#pressed(event), true);
+  }
+
+  #openSteps() {
+    this.opening();
+    this.stepFinder.open();
   }
 
   #pressed(event) {
@@ -40,7 +49,7 @@ export class Helper {
   /** Whether a key opens a search. */
   #pressedFind({ key, ctrlKey, metaKey, shiftKey, altKey }, isInText) {
     if (altKey || ctrlKey === metaKey || key.toLowerCase() !== "f") return false;
-    if (shiftKey) this.stepFinder.open();
+    if (shiftKey) this.#openSteps();
     else if (isInText || this.textFinder.bar.isOpen) this.textFinder.open();
     else return false;
     return true;

@@ -6,6 +6,12 @@ import { newId } from "../editor/drafts.js";
 const KEPT_EVERY = 3000;
 /** Nanoseconds of the machine between two times at which its state is kept too, which takes longer. */
 const STATE_EVERY = 30e9;
+/**
+ * A run that was not noted for so many milliseconds was on in a page that is gone: browsers let a hidden one note it
+ * each minute.
+ */
+export const DEAD = 90000;
+const TAB = "zaklimot-tab";
 const BY_FILE = "Pause it and save the run, and the file brings it back.";
 const WHY_LOST = {
   forbidden: `This browser keeps nothing for the page, so a run is gone after a reload. ${BY_FILE}`,
@@ -13,7 +19,22 @@ const WHY_LOST = {
   long: `This run has more keys than the browser keeps, so it is gone after a reload. ${BY_FILE}`,
   large: `The browser keeps software of 32 MiB at most, so this run is gone after a reload. ${BY_FILE}`,
 };
-const isTyped = ({ does }) => does !== "set_instruction_time";
+/** What the page itself hands in when software starts. */
+const OF_START = ["set_instruction_time", "set_palette"];
+const isTyped = ({ does }) => !OF_START.includes(does);
+
+/** What names this tab, also when the page is loaded anew in it; "" where the browser keeps nothing. */
+function tabId() {
+  try {
+    if (!sessionStorage.getItem(TAB)) sessionStorage.setItem(TAB, newId());
+    return sessionStorage.getItem(TAB);
+  } catch {
+    return "";
+  }
+}
+
+/** Whether the page was loaded anew: a page that was killed is, too. */
+const isReloaded = () => performance.getEntriesByType?.("navigation")[0]?.type === "reload";
 
 /** A few words for a run. */
 const titleOf = (name, seconds) => `${name}, ${seconds.toFixed(1)} s`;
@@ -34,6 +55,7 @@ export class Keeper {
   /** The machine's time when its state was kept last. */
   #stateTime = 0;
   #isLeaving = false;
+  #tab = tabId();
 
   constructor(runs, live, tell) {
     this.#runs = runs;
@@ -54,7 +76,10 @@ export class Keeper {
     if (pausedAt && old?.pausedAt === pausedAt) return null;
     const { machine, name } = live, inputs = machine.inputs.slice(0, machine.cpu.inputs());
     const isSplit = old?.inputs.slice(inputs.length).some(isTyped) ?? false;
-    if (isSplit) this.#gone = old;
+    if (isSplit) {
+      this.#gone = old;
+      this.#runs.rest(old.id);
+    }
     this.#now = { id: old && !isSplit ? old.id : newId(), name, software: machine.software,
       softwareId: this.#idOf(machine.software), moment: machine.moment, inputs, pausedAt };
     const isKept = this.#keep();
@@ -90,7 +115,10 @@ export class Keeper {
     const run = this.#now;
     clearTimeout(this.#timer);
     this.#now = null;
-    if (run) this.#gone = run;
+    if (run) {
+      this.#gone = run;
+      this.#runs.rest(run.id);
+    }
     return run && this.#told(run);
   }
 
@@ -102,8 +130,9 @@ export class Keeper {
     clearTimeout(this.#timer);
     this.#timer = setTimeout(() => {
       const live = this.#live();
-      if (live?.state === "running" && !live.isComingBack) this.note();
-      else this.#keepSoon();
+      if (live?.state === "running" && !live.isComingBack) return this.note();
+      if (this.#now) this.#runs.beat(this.#now.id, this.#tab);
+      return this.#keepSoon();
     }, KEPT_EVERY);
   }
 
@@ -112,6 +141,7 @@ export class Keeper {
     const run = this.#now, hasKeys = run.inputs.some(isTyped);
     const wrong = this.#runs.keep({ ...run, hasKeys }, this.#isLeaving);
     this.#warn(wrong);
+    if (!wrong) this.#runs.beat(run.id, this.#tab);
     // Floppies that are put in while it runs are part of the software.
     const shelved = `${run.softwareId} ${run.software.media?.length ?? 0}`;
     if (!wrong && !this.#shelved.has(shelved)) {
@@ -134,10 +164,19 @@ export class Keeper {
     if (this.#now) this.#keep();
   }
 
-  /** The run that was on when a page was left: { id, title, name }; null for none. It is told once. */
+  /** The runs that were on in a page that is gone, though it was never left: the browser has killed it. */
+  get #dead() {
+    const isHere = tab => tab !== "" && tab === this.#tab && isReloaded();
+    return this.#runs.beats().filter(({ id, age, tab }) => id !== this.#now?.id && (age > DEAD || isHere(tab)))
+      .map(({ id }) => id);
+  }
+
+  /** The run that was on when a page was left, or was killed: { id, title, name }; null for none. It is told once. */
   left() {
-    const found = this.#runs.list().find(({ isLeft }) => isLeft);
+    const dead = this.#dead, found = this.#runs.list().find(({ id, isLeft }) => isLeft || dead.includes(id));
+    for (const id of dead) this.#runs.rest(id);
     if (!found) return null;
+    this.#runs.rest(found.id);
     this.#runs.forgetLeft();
     return { ...found, title: titleOf(found.name, found.seconds) };
   }

@@ -42,13 +42,18 @@ const REASONS = { ended: "The program has ended.", watch: "The cycle that you as
 const ENDS = ["ended", "restarted", "halted"];
 const NO_STOP = stopOf("nothing", "");
 /**
- * A machine in real time. `heard` has `changed()`, when it begins, stops or ends, and `failed(error)`.
+ * A machine in real time. `heard` has `changed()`, when it begins, stops or ends, `failed(error)`, and may have
+ * `told()`, from time to time as it runs.
  */
 export class Live {
   /** "off", "running", "paused", or "failed" where the machine can't go on. */
   state = "off";
   /** Why it paused, where it did so by itself. */
   reason = "";
+  /** Whether it paused since the program has ended: its screen stands there, whole. */
+  isOver = false;
+  /** Whether mode 13 has the colours that PCs' BIOSes load, in software that is started. */
+  hasTheirColours = false;
   snapshots = null;
   #modules;
   #fonts;
@@ -95,7 +100,14 @@ export class Live {
   start(software, name) {
     this.#boot(software, name);
     this.#machine.setSpeed(SPEEDS[this.#speed]);
+    if (this.hasTheirColours) this.#machine.setPalette(true);
     this.#begin();
+  }
+
+  /** Whether it shows mode 13 in the adapter's own colours. */
+  get hasOwnColours() {
+    const { software, hasSet13, inputs } = this.#machine;
+    return hasSet13 && !software.rom && !inputs.some(({ does }) => does === "set_palette");
   }
 
   /** Starts a run that was saved. What comes from outside comes again, until the user does something. */
@@ -256,6 +268,7 @@ export class Live {
 
   #go() {
     this.state = "running";
+    this.isOver = false;
     byId("liveway").value = 0;
     this.#lastTime = performance.now();
     this.#drawn = -1;
@@ -294,7 +307,16 @@ export class Live {
     this.#goal = null;
     this.#machine.stopAt();
     if (!isEarlier) this.#addSnapshot();
+    if (this.isOver) this.#showEnd();
     this.#heard.changed();
+  }
+
+  /** Draws the screen of a program that has ended down to its last line. */
+  #showEnd() {
+    const machine = this.#machine;
+    machine.drawRest();
+    this.#draw();
+    machine.restore(this.snapshots.last);
   }
 
   /** Switches it off. What `takeUp` needs to have it paused as it is now; null where there is nothing. */
@@ -313,7 +335,7 @@ export class Live {
 
   /** Has a machine paused again as it was when it was switched off. */
   takeUp({ name, machine, snapshots }) {
-    Object.assign(this, { name, snapshots, reason: "", state: "paused" });
+    Object.assign(this, { name, snapshots, reason: "", isOver: false, state: "paused" });
     this.#machine = machine;
     machine.restore(snapshots.last);
     this.#heard.changed();
@@ -413,6 +435,7 @@ export class Live {
     this.reason = REASONS[this.#machine.stopped] ?? "";
     const { missing, stopped } = this.#machine;
     if (ENDS.includes(stopped) && missing.length) this.reason += ` ${missingText(missing)}`;
+    this.isOver = stopped === "ended" && !this.isComingBack;
     this.pause();
   }
 
@@ -433,6 +456,7 @@ export class Live {
     const mips = (instructions - this.#told.instructions) / passed / 1000;
     const rate = (frames - this.#told.frames) / passed * 1000;
     setText(byId("livestate"), this.#stateText(mips, rate));
+    this.#heard.told?.();
     this.#told = { at: now, instructions, frames };
   }
 

@@ -30,7 +30,7 @@ const LOW_END = 0xa0000, HIGH_BEGIN = 0x100000;
 const PROCESSOR = ["EAX", "ECX", "EDX", "EBX", "ESP", "EBP", "ESI", "EDI", "EIP", "FLAGS",
   "ES", "CS", "SS", "DS", "FS", "GS"];
 /** The calls of the video BIOS that set a mode have AH 0; a call counts as so many cycles. */
-const SET_MODE = 0, CALL_CYCLES = 2;
+const SET_MODE = 0, MODE_13 = 0x13, CALL_CYCLES = 2;
 /** Nanoseconds in which the machine looks at nothing else: QUANTUM of machine/pc/run.c. */
 export const QUANTUM = 50000;
 /** The names of the drives, by their slots. */
@@ -72,6 +72,8 @@ export class Machine {
   missing = [];
   /** When modes were set by interrupt 10: the cycles of the display and the nanoseconds until then. */
   modes = [];
+  /** Whether interrupt 10 has set mode 13. */
+  hasSet13 = false;
   /** How many cycles of the display there were at the end of each of the last frames, by its number. */
   #frameCycles = new Map();
 
@@ -176,6 +178,7 @@ export class Machine {
     this.#writeText(cpu.arguments(), software.words ? ` ${software.words}` : "", 127);
     this.#inputs = [];
     this.missing = [];
+    this.hasSet13 = false;
     this.#frameCycles.clear();
     this.latest = null;
     this.#window = null;
@@ -285,6 +288,11 @@ export class Machine {
   /** The time of an instruction from here on, in nanoseconds; kept with its time too. */
   setSpeed(nanoseconds) {
     this.#take({ time: this.cpu.now(), does: "set_instruction_time", values: [nanoseconds] });
+  }
+
+  /** Whether mode 13 begins with the colours that PCs' BIOSes load, from the next mode set on; kept with its time. */
+  setPalette(isTheirs) {
+    this.#take({ time: this.cpu.now(), does: "set_palette", values: [Number(isTheirs)] });
   }
 
   /** What comes from outside is the last thing to come: what would have come again does not. */
@@ -539,7 +547,9 @@ export class Machine {
     const made = view.getUint32(room + 16, true);
     if (made) this.#write(16 * given[4] + given[3], this.adapterBytes.subarray(this.table, this.table + made));
     this.#writeBiosData();
-    if (given[0] >> 8 === SET_MODE) this.#noteMode();
+    if (given[0] >> 8 !== SET_MODE) return;
+    this.#noteMode();
+    this.hasSet13 ||= (given[0] & 0x7f) === MODE_13;
   }
 
   #noteMode() {

@@ -8,10 +8,14 @@ import { rebuildingLines } from "./rebuilt.js";
 /** The cycles and frames that a window has at most, unless its last frame alone has more. */
 const WINDOW_CYCLES = 200000, WINDOW_FRAMES = 70, MOST_WINDOW = 1000000;
 const SECOND = 1e9;
+/** The milliseconds of a run between two checkpoints. */
+const SPACING = 16;
 
 /** The last frames of a live machine, and how to go on from each of their steps. */
 export class Paused {
   recording = null;
+  /** The display's saved state after the last step; null where some of them are left out. */
+  endState = null;
   #live;
   #adapter;
   #fonts;
@@ -50,7 +54,11 @@ export class Paused {
     this.#beginTime = time;
     this.recording = new Recording(rebuildingLines(this.#adapter, this.#fonts, state), machine);
     this.#cycle = this.#end.cycles - this.recording.words.length / 4;
-    return new Session(this.#adapter, this.#fonts, "", judgedRecording(this.#adapter, this.recording));
+    this.endState = this.recording.leftOut ? null : machine.savedState().slice();
+    const session = new Session(this.#adapter, this.#fonts, "", judgedRecording(this.#adapter, this.recording));
+    // A program writes much of memory between two checkpoints, so that each is a copy of that.
+    session.spacing = SPACING;
+    return session;
   }
 
   /** The moment after so many cycles of the display, which came at a time: see Live.goTo. */

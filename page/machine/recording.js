@@ -1,7 +1,9 @@
 // What the machine has done as the steps of a script: lines that rebuild the display at the beginning,
 // then the records, each with the dots before it. Their text is made where it is seen or saved.
+import { BLOCK_BYTES, Encoder } from "./encoding.js";
 import { KIND, StepList } from "../script/steplist.js";
-import { hex, joinedBytes } from "../common/bytes.js";
+import { MAGIC, Operations } from "../run/scout.js";
+import { hex } from "../common/bytes.js";
 
 // A record has four words: dots; kind (bits 28 to 31), refused (27) and address; code segment and value;
 // offset. machine/pc/records.c has the same.
@@ -19,6 +21,8 @@ export class Recording extends StepList {
   hasExpected = true;
   /** How many of the last records are left out, since a script has no room for more. */
   leftOut = 0;
+  /** The bytes of the first lines' steps, an array each: judgedRecording has them made. */
+  headBytes = [];
   #entries = { kinds: [], lines: [], records: [] };
   #line = 0;
   #plainFrom = 0;
@@ -130,19 +134,29 @@ export class Recording extends StepList {
     return turns;
   }
 
+  dotsOf(entry) {
+    const record = this.records[entry];
+    return record === HEAD ? super.dotsOf(entry) : this.words[WORDS * record] ?? this.dotsDue;
+  }
+
   /** The words of a step, as a script spells them. */
   wordsOf(entry) {
     const record = this.records[entry];
     if (record === HEAD) return this.head[entry];
     if (this.kinds[entry] === KIND.advance) {
-      return `advance ${this.words[WORDS * record] ?? this.dotsDue}`;
+      return `advance ${this.dotsOf(entry)}`;
     }
     return this.kinds[entry] === KIND.int ? this.#callWords(record) : this.#cycleWords(entry, record);
   }
 
-  #callWords(record) {
+  /** AX to DX of a call. */
+  #registersOf(record) {
     const [first, second] = [this.words[WORDS * record + 2], this.words[WORDS * record + 6]];
-    const values = [first >>> 16, first & 0xffff, second >>> 16, second & 0xffff];
+    return [first >>> 16, first & 0xffff, second >>> 16, second & 0xffff];
+  }
+
+  #callWords(record) {
+    const values = this.#registersOf(record);
     const named = ["ax", "bx", "cx", "dx"].map((name, i) => `${name}=${hex(values[i], 4)}`);
     const block = this.blockOf.get(record);
     const digits = Array.from(block, byte => hex(byte, 2)).join("");
@@ -204,6 +218,51 @@ export class Recording extends StepList {
     return `${lines.join("\n")}\n`;
   }
 
+  /** How many bytes some entries have. */
+  #sizeOf(from, count) {
+    let size = 0;
+    for (let entry = from; entry < from + count; entry++) {
+      const kind = this.kinds[entry], record = this.records[entry];
+      size += record === HEAD ? this.headBytes[entry].length
+        : Encoder.size(kind, kind === KIND.int ? this.blockOf.get(record).length : 0);
+    }
+    return size;
+  }
+
+  #encode(encoder, from, count) {
+    const { words } = this;
+    for (let entry = from; entry < from + count; entry++) {
+      const kind = this.kinds[entry], record = this.records[entry], at = WORDS * record;
+      if (record === HEAD) encoder.raw(this.headBytes[entry]);
+      else if (kind === KIND.advance) encoder.advance(words[at] ?? this.dotsDue);
+      else if (kind === KIND.int) encoder.call(this.#registersOf(record), this.blockOf.get(record));
+      else encoder.cycle(kind, words[at + 1] & ADDRESS, words[at + 2]);
+    }
+  }
+
+  /** The bytes of entries, all of them taken so many times, as a script of their own. */
+  bytesOf(from, count, turns = 1) {
+    const isBlock = turns > 1, size = this.#sizeOf(from, count) + (isBlock ? BLOCK_BYTES : 0);
+    const encoder = new Encoder(MAGIC + size, isBlock ? 2 : 1);
+    if (isBlock) encoder.repeat(turns);
+    this.#encode(encoder, from, count);
+    if (isBlock) encoder.end();
+    return encoder.bytes;
+  }
+
+  /** The bytes of the whole script. */
+  get bytes() {
+    const size = this.runs.reduce((sum, run) =>
+      sum + this.#sizeOf(run.from, run.size) + (run.isBlock ? BLOCK_BYTES : 0), 0);
+    const encoder = new Encoder(MAGIC + size, this.hasBlocks ? 2 : 1);
+    for (const { count, from, size: entries, isBlock } of this.runs) {
+      if (isBlock) encoder.repeat(count);
+      this.#encode(encoder, from, entries);
+      if (isBlock) encoder.end();
+    }
+    return encoder.bytes;
+  }
+
   /** The whole text. */
   get text() {
     const parts = this.hasBlocks ? ["version 2\n"] : [];
@@ -215,48 +274,20 @@ export class Recording extends StepList {
   }
 }
 
-// A script's bytes begin with four letters and its version (docs/SCRIPT.md).
-const FRONT_BYTES = 5;
-/** So many entries are assembled at a time: their text is not too long. */
-const CHUNK = 100000;
-
-/** The texts of a recording's steps, so many at a time, each a script of its own. */
-function* chunksOf(recording) {
-  for (const { count, from, size, isBlock } of recording.runs) {
-    if (isBlock) yield `version 2\nrepeat ${count}\n${recording.textOf(from, size)}end\n`;
-    for (let at = from; !isBlock && at < from + size; at += CHUNK) {
-      yield recording.textOf(at, Math.min(CHUNK, from + size - at));
-    }
-  }
-}
-
-/** The bytes of a recording's script. */
-function assembledRecording(adapter, recording) {
-  const parts = [Uint8Array.of(0x56, 0x47, 0x41, 0x53, recording.hasBlocks ? 2 : 1)];
-  let blocks = [];
-  const addBlocks = () => {
-    if (!blocks.length) return;
-    parts.push(adapter.assemble(blocks.join("")).subarray(FRONT_BYTES));
-    blocks = [];
-  };
-  for (const chunk of chunksOf(recording)) {
-    const isBlock = chunk.startsWith("version 2\n");
-    if (!isBlock) addBlocks();
-    else blocks.push(blocks.length ? chunk.slice("version 2\n".length) : chunk);
-    if (!isBlock) parts.push(adapter.assemble(chunk).slice(FRONT_BYTES));
-    if (blocks.length === CHUNK / 4) addBlocks();
-  }
-  addBlocks();
-  return joinedBytes(parts);
+/** The bytes of the first lines' steps, as the module reads them. */
+function bytesOfHead(adapter, head) {
+  const script = adapter.assemble(`${head.join("\n")}\n`), { starts } = new Operations(script, head.length);
+  return Array.from(starts, (start, i) => script.slice(start, starts[i + 1] ?? script.length));
 }
 
 /** A recording as the page's sessions take it: { outline, script }; the bytes are made where needed. */
 export function judgedRecording(adapter, recording) {
   let bytes = null;
+  recording.headBytes = bytesOfHead(adapter, recording.head);
   return {
     outline: recording,
     get script() {
-      bytes ??= assembledRecording(adapter, recording);
+      bytes ??= recording.bytes;
       return bytes;
     },
   };

@@ -1,6 +1,6 @@
 // The machine in the page: what is dropped runs, a pause shows its last frames in the debugger, and it goes
 // on from any of their steps.
-import { Keeper } from "./keeper.js";
+import { DEAD, Keeper } from "./keeper.js";
 import { sumOf } from "./keptstate.js";
 import { Live } from "./live.js";
 import { Paused } from "./paused.js";
@@ -28,6 +28,8 @@ const HEAD_TEXT = "The first steps make the display as it was when these frames 
   "before that stands in earlier frames: press “back 1 s” or “back 10 s”.";
 /** What is told of a run that was left behind by who stopped its way back, or went on from a step before its end. */
 const NOT_WHOLE = "has not come back whole", HAS_LATER = "has the keys that came after this step";
+/** What the browser's storage keeps: which colours mode 13 has, and that it was told of them. */
+const THEIR_COLOURS = "their colours", COLOURS_TOLD = "colours told";
 const TO_RESTART = [0x1d, 0x38, 0x53, 0xd3, 0xb8, 0x9d];
 
 const placeText = ({ segment, offset, text }) => `${hex(segment, 4)}:${hex(offset, 4)}  ${text}`;
@@ -39,12 +41,15 @@ function codeLine(code, words, isNow) {
 /** What stands between the page and a machine. `heard` is told in the constructor. */
 export class MachineRoom {
   #data;
+  #settings;
   #module;
   #heard;
   #live = null;
   #paused = null;
   /** Whether steps of the machine stand in the debugger. */
   #hasWindow = false;
+  /** Whether the last frames of a program that has ended are asked for. */
+  #isExplained = false;
   #rom = null;
   /** Which of shiftKey, ctrlKey and altKey are held on the screen's keyboard. */
   #held = {};
@@ -55,19 +60,22 @@ export class MachineRoom {
 
   /**
    * `data` is what the page was built with, `module` the adapter's bytes, `runs` those that the browser
-   * keeps. `heard` has `adapter()`, `fonts()`, `show(session)`, which shows a session in the debugger,
+   * keeps, and `settings` what it keeps of the page's looks. `heard` has `adapter()`, `fonts()`, `show(session, saved)`, which shows a session in the debugger, with the state at its end,
    * `steps()`, how many are shown, `script(text, name)`, `end()`, after which the page has its own script
    * again, `named(words, isRunning)`, which program is on, `left({ id, title })`, a run was switched off, `cameBack(id)`, it
    * was brought back, `tell(text, isKept)`, `offer(text, title, does)`, `withdraw()`, which takes an offer away, and
    * `guarded(does)`.
    */
-  constructor(data, module, runs, heard) {
+  constructor(data, module, runs, settings, heard) {
     this.#data = data;
+    this.#settings = settings;
     this.#module = module;
     this.#heard = heard;
     this.#keeper = new Keeper(runs, () => this.#live, text => heard.tell(text, true));
     const clicks = {
-      livepause: () => this.#live.pause(),
+      livepause: () => (this.#isOver ? this.#explain() : this.#live.pause()),
+      livetheirs: () => this.#takeTheirs(),
+      liveown: () => { byId("livecolours").hidden = true; },
       liverestart: () => this.#restart(),
       livekeyboard: () => this.#toggleKeyboard(),
       livefloppy: () => byId("file").click(),
@@ -88,6 +96,7 @@ export class MachineRoom {
       byId(name).addEventListener("click", () => heard.guarded(does));
     }
     this.#makeSpeeds();
+    this.#makeColours();
     this.#makeStops();
     this.#makeKeyboard();
   }
@@ -101,6 +110,31 @@ export class MachineRoom {
       list.value = this.#live.speed;
       byId("live").focus();
     });
+  }
+
+  /** The choice of the colours of mode 13, which counts from the next start on. */
+  #makeColours() {
+    const box = byId("livepalette");
+    box.checked = this.#settings.get(THEIR_COLOURS) === true;
+    box.addEventListener("change", () => {
+      this.#settings.set(THEIR_COLOURS, box.checked);
+      if (this.#live) this.#live.hasTheirColours = box.checked;
+    });
+  }
+
+  /** Starts the software again with the colours that PCs' BIOSes load. */
+  #takeTheirs() {
+    byId("livepalette").checked = this.#live.hasTheirColours = true;
+    this.#settings.set(THEIR_COLOURS, true);
+    byId("livecolours").hidden = true;
+    this.#restart();
+  }
+
+  /** Tells once that mode 13 has other colours here than elsewhere. */
+  #tellColours() {
+    if (!this.#live.hasOwnColours || this.#settings.get(COLOURS_TOLD) === true) return;
+    this.#settings.set(COLOURS_TOLD, true);
+    byId("livecolours").hidden = false;
   }
 
   #makeStops() {
@@ -264,8 +298,13 @@ export class MachineRoom {
 
   /** Offers to bring back the run that was on when the page was left. */
   offerLeft() {
-    const run = this.#keeper.left();
-    if (run) this.#offer(run, "ran here when the page was left");
+    const offer = () => {
+      const run = this.isOn ? null : this.#keeper.left();
+      if (run) this.#offer(run, "ran here when the page was left");
+    };
+    offer();
+    // A page that was killed a moment ago, in another tab.
+    setTimeout(offer, DEAD + 1000);
   }
 
   #restart(isWarm = false) {
@@ -335,8 +374,9 @@ export class MachineRoom {
     const { machine } = this.#data, fonts = this.#heard.fonts();
     const [cpu, reads] = [await unzipped(machine.cpu), await unzipped(machine.reads)];
     const modules = await compiledModules({ adapter: this.#module, cpu, reads });
-    this.#live = new Live(modules, fonts, { changed: () => this.#changed(), failed: error => this.#fail(error) },
-      { version: sumOf(this.#module, cpu, reads, fonts) });
+    this.#live = new Live(modules, fonts, { changed: () => this.#changed(), failed: error => this.#fail(error),
+      told: () => this.#tellColours() }, { version: sumOf(this.#module, cpu, reads, fonts) });
+    this.#live.hasTheirColours = byId("livepalette").checked;
   }
 
   /** The machine can't go on. What was typed can be looked at, up to where it stopped. */
@@ -364,15 +404,35 @@ export class MachineRoom {
     const { state, isComingBack } = this.#live, split = this.#keeper.note();
     if (split) this.#offer(split, state === "paused" ? NOT_WHOLE : HAS_LATER);
     byId("liveway").hidden = !isComingBack;
-    setText(byId("livepause"), isComingBack ? "stop here" : "pause and explain");
-    this.#heard.named(state === "off" ? "" : `${this.#live.name}, ${state}`, state === "running");
-    byId("machine").hidden = state !== "running";
-    byId("pausedbar").hidden = state !== "paused";
-    byId("savetrace").hidden = state !== "paused";
-    document.body.classList.toggle("paused", state === "paused");
-    byId(state === "paused" ? "pausedstop" : "livestop").append(byId("stops"));
+    if (state !== "paused") this.#isExplained = false;
+    const isOver = this.#isOver, isSeen = state === "running" || isOver, isPaused = state === "paused" && !isOver;
+    setText(byId("livepause"), isComingBack ? "stop here" : isOver ? "explain its last frames" : "pause and explain");
+    this.#heard.named(state === "off" ? "" : `${this.#live.name}, ${isOver ? "ended" : state}`, isSeen);
+    byId("machine").hidden = !isSeen;
+    byId("machine").classList.toggle("over", isOver);
+    if (!isSeen) byId("livecolours").hidden = true;
+    byId("pausedbar").hidden = byId("savetrace").hidden = !isPaused;
+    document.body.classList.toggle("paused", isPaused);
+    byId(isPaused ? "pausedstop" : "livestop").append(byId("stops"));
     setText(byId("livename"), this.#live.name ?? "");
-    if (state === "paused") this.#heard.guarded(() => this.#showWindow());
+    if (isOver) this.#showOver();
+    if (isPaused) this.#heard.guarded(() => this.#showWindow());
+  }
+
+  /** Whether a program has ended, and its screen stands there. */
+  get #isOver() {
+    return this.#live.state === "paused" && this.#live.isOver && !this.#isExplained;
+  }
+
+  #showOver() {
+    setText(byId("livestate"), this.#live.reason);
+    byId("livepause").focus();
+  }
+
+  /** Shows the last frames of a program that has ended. */
+  #explain() {
+    this.#isExplained = true;
+    this.#changed();
   }
 
   #showWindow() {
@@ -383,7 +443,7 @@ export class MachineRoom {
     setText(byId("pausedtime"), `${this.#live.name} is paused at ${this.#paused.time.toFixed(2)} s. ${reason}${more}`);
     this.#live.reason = "";
     this.#hasWindow = true;
-    this.#heard.show(session);
+    this.#heard.show(session, this.#paused.endState);
   }
 
   /** Shows the code that led to the step that is shown, and soon what the processor has then. */

@@ -2,7 +2,7 @@
 // which is written at once, even while the page closes; the software, which may be large, in its database.
 import { inputsOf, isSoftware, listedInputs } from "./savedrun.js";
 
-const PREFIX = "zaklimot-run-", DATABASE = "zaklimot-runs", SHELF = "software";
+const PREFIX = "zaklimot-run-", BEAT = "zaklimot-on-", DATABASE = "zaklimot-runs", SHELF = "software";
 /** So many runs are kept, with so many characters each, and in all; of the software, so many bytes each. */
 const MOST_RUNS = 6, LONGEST = 400000, MOST_TOGETHER = 600000, MOST_SOFTWARE = 1 << 25;
 
@@ -157,6 +157,37 @@ export class Runs {
   async #dropUnused() {
     const used = new Set(this.list().flatMap(({ id, softwareId }) => [softwareId, stateKey(id)]));
     for (const key of await this.shelf.keys()) if (!used.has(key)) await this.shelf.delete(key);
+  }
+
+  /** Notes that a run is on now, in a tab. */
+  beat(id, tab) {
+    try {
+      this.storage().setItem(BEAT + id, `${this.now()} ${tab}`);
+    } catch {
+      // What is not kept is not offered either.
+    }
+  }
+
+  /** Notes that a run is on no longer. */
+  rest(id) {
+    try {
+      this.storage().removeItem(BEAT + id);
+    } catch {
+      // Nothing was noted.
+    }
+  }
+
+  /** The runs that were noted to be on: { id, age, tab }, of milliseconds since then. */
+  beats() {
+    try {
+      const storage = this.storage(), keys = Array.from({ length: storage.length }, (_, i) => storage.key(i));
+      return keys.filter(key => key.startsWith(BEAT)).map(key => {
+        const [time, tab = ""] = storage.getItem(key).split(" ");
+        return { id: key.slice(BEAT.length), age: this.now() - Number(time), tab };
+      });
+    } catch {
+      return [];
+    }
   }
 
   /** No run counts any longer as one that was on when the page was left. */

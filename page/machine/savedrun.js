@@ -18,6 +18,7 @@ const INPUTS = {
   key: values => values.length === 2 && values.every(isWord),
   mouse: values => values.length === 3 && values.every(isWord),
   set_instruction_time: ([time, ...more]) => !more.length && Object.values(SPEEDS).includes(time),
+  set_palette: ([isTheirs, ...more]) => !more.length && [0, 1].includes(isTheirs),
   change: ([slot, number, ...more]) => !more.length && [0, 1].includes(slot) && isWord(number),
 };
 

@@ -31,10 +31,9 @@ function cycleOf({ title, sentences, heads, rows }) {
   const body = rows.map(row => element("tr", {}, element("th", { scope: "row" }, row.title),
     ...row.cells.map((cell, i) => cellOf(cell, heads[i].isUsed))));
   const table = element("table", { className: "cycle" },
-    element("thead", {}, element("tr", {}, element("td"), ...head)),
+    element("thead", {}, element("tr", {}, element("td", {}, element("h3", {}, title)), ...head)),
     element("tbody", {}, ...body));
-  return element("div", {}, element("h3", {}, title), address,
-    element("div", { className: "scroll" }, table), ...more);
+  return element("div", {}, element("div", { className: "scroll" }, table), address, ...more);
 }
 
 /** What to say where the last step has no cycle of memory that could be shown. */
@@ -76,6 +75,6 @@ export class WritePanel {
     }
     const hint = element("p", { className: "hint" }, "The registers and latches are those before " +
       "the step. Bits that changed are bold; planes that take no part are pale. ", this.#link, ".");
-    return [hint, ...tablesOfStep(before, step).map(cycleOf)];
+    return [...tablesOfStep(before, step).map(cycleOf), hint];
   }
 }

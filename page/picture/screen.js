@@ -7,6 +7,8 @@ import { lineOfDot } from "../explain/dotrows.js";
 import { differingWord, hex, wordsOfBytes } from "../common/bytes.js";
 import { widened } from "./png.js";
 
+/** The register of the graphics controller that says whether it is text, and its bit; what is as good as whole. */
+const MISCELLANEOUS = 6, GRAPHICS = 1, NEARLY = 0.004;
 const DARK = 0.32, GLASS_DOTS = 15, GLASS_SCALE = 10;
 
 /** The lines of a picture that have dots: { line, width, drawn, from }, and the widest. */
@@ -226,10 +228,17 @@ export class Screen {
     const wide = this.widthFor(ratio);
     const width = Math.floor(wide) * this.pictures + "px", height = Math.floor(wide / ratio) + "px";
     setAll(byId("frame").style, { width, height });
-    // Hard edges would drop dots of a picture that stands smaller than it is.
-    const isRoom = wide * devicePixelRatio >= canvas.width &&
-      wide / ratio * devicePixelRatio >= canvas.height;
-    byId("frame").classList.toggle("sharp", isRoom && byId("sharp").checked);
+    const scales = [wide * devicePixelRatio / canvas.width, wide / ratio * devicePixelRatio / canvas.height];
+    byId("frame").classList.toggle("sharp", byId("sharp").checked && this.canBeSharp(scales));
+  }
+
+  /**
+   * Whether a picture may have hard edges at these scales. They would drop dots of one that stands smaller than it is,
+   * and make stems of letters uneven that are not a whole number of pixels wide.
+   */
+  canBeSharp(scales) {
+    const isText = this.seen && !(this.seen.after.registers.gfx[MISCELLANEOUS] & GRAPHICS);
+    return scales.every(scale => scale >= 1 - NEARLY && (!isText || Math.abs(scale - Math.round(scale)) < NEARLY));
   }
 
   beamPlace() {
@@ -295,6 +304,7 @@ export class Screen {
 
   /** Where a dot comes from, in words behind others. */
   wayOf({ row: { line }, x: dot }) {
+    if (this.seen.isGlimpse) return "";
     const found = dotOfSeen(this.seen, { line, dot });
     return found ? ` · ${lineOfDot(found, { line, dot })}` : "";
   }

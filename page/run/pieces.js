@@ -51,13 +51,9 @@ export class Pieces {
 
   /** The bytes of a script of some entries, all of them taken so many times. */
   bytes(from, count, turns) {
-    // Some steps were never a text.
-    if (this.outline.bytesOf) return this.outline.bytesOf(from, count);
     const key = `${from} ${count} ${turns}`, old = this.#cache.get(key);
     if (old) return old;
-    const steps = this.outline.textOf(from, count);
-    const text = turns === 1 ? steps : `version 2\nrepeat ${turns}\n${steps}\nend\n`;
-    const bytes = this.adapter.assemble(text);
+    const bytes = this.outline.bytesOf?.(from, count, turns) ?? this.#assembled(from, count, turns);
     if (this.#size > MOST_PIECES) {
       this.#cache.clear();
       this.#size = 0;
@@ -67,10 +63,16 @@ export class Pieces {
     return bytes;
   }
 
+  /** The bytes of steps that are a text. */
+  #assembled(from, count, turns) {
+    const steps = this.outline.textOf(from, count);
+    return this.adapter.assemble(turns === 1 ? steps : `version 2\nrepeat ${turns}\n${steps}\nend\n`);
+  }
+
   costOf(entry) {
     const kind = this.outline.kinds[entry];
     if (kind !== KIND.advance) return COSTS[kind] ?? USUAL_COST;
-    const dots = Number(this.outline.wordsOf(entry).split(" ")[1]);
+    const dots = this.outline.dotsOf(entry);
     const time = USUAL_COST.time + Math.min(dots, 1 << 24) / DOTS_A_MILLISECOND;
     return { time, report: USUAL_COST.report };
   }

@@ -294,6 +294,16 @@ export class Session {
   }
 
   /**
+   * What there is to see at the end of a run that has hardly begun, by the saved state there: as `seen` answers it,
+   * but that nothing is known of its last step.
+   */
+  glimpse(saved) {
+    this.restore({ at: -1, parts: [saved] });
+    const after = this.state();
+    return { steps: this.length, before: after, after, picture: this.pictureSoFar(after), isGlimpse: true };
+  }
+
+  /**
    * The picture of the frame under way in the card's state: all its lines, and how many dots of each are drawn.
    * The card goes on to the frame's end, and is brought back once it is used: to go elsewhere, nothing else needs it.
    */

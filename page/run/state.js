@@ -7,7 +7,7 @@ import { FIRST_STATE, HIGHEST, PLANE_SIZE } from "../../javascript/zaklimot.js";
 const AHEAD = 2;
 const AT = { dac: 101, planes: 894, drawn: 263038 };
 // The clocks that bits 3 and 2 of miscellaneous output select, in dots a second.
-const CLOCKS = { 0: 25175000, 1: 28322000 };
+const CLOCKS = [25175000, 28322000, 25175000, 25175000];
 
 /** How many dots a line of the frame under way has so far, in saved bytes. */
 export function drawnDots(bytes, line) {
@@ -131,13 +131,10 @@ export function frameShape(registers) {
   return { dots: (crtc[0] + 5) * characterWidth(registers), lines };
 }
 
-/**
- * The dots of a frame and the dots that pass in a second; null where no clock is selected that is
- * known.
- */
+/** The dots of a frame and the dots that pass in a second. */
 export function frameSpeed(registers) {
   const clock = CLOCKS[registers.misc >> 2 & 3], { dots, lines } = frameShape(registers);
-  return clock ? { dots: dots * lines, rate: clock / (registers.seq[1] & 8 ? 2 : 1) } : null;
+  return { dots: dots * lines, rate: clock / (registers.seq[1] & 8 ? 2 : 1) };
 }
 
 /** How many lines a row of characters has, each of them twice or not, and how far rows are apart. */

@@ -64,16 +64,12 @@ export function isPlainAnswer(answer, words) {
 }
 
 /**
- * What a call answers that hands back AX to DX as they were given; it may have changed much else.
- */
-export const AS_GIVEN = "ax to dx as given";
-
-/**
- * An answer for a narrow column: of a call, the registers alone that differ from those handed in.
+ * An answer for a narrow column: of a call, the registers alone that differ from those handed in, and so nothing
+ * of one that hands back AX to DX as they were given.
  */
 export function shortAnswer(answer, words) {
   if (!answer.startsWith("ax=")) return answer;
   const given = handedIn(words);
   const others = answer.split(" ").filter(word => !given.includes(word.toLowerCase()));
-  return others.join(" ") || AS_GIVEN;
+  return others.join(" ");
 }

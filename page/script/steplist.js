@@ -45,6 +45,11 @@ export class StepList {
     return this.lines[entry] + 1;
   }
 
+  /** The dots that an `advance` lets pass. */
+  dotsOf(entry) {
+    return Number(this.wordsOf(entry).split(" ")[1]);
+  }
+
   nameOf(entry) {
     return STEP_NAMES[this.kinds[entry]];
   }

@@ -7,9 +7,9 @@ import { Settings } from "../common/settings.js";
 const LAPTOP = [1366, 1366, 704], WIDE = [1920, 1920, 1018], PHONE = [390, 390, 800];
 
 /** An arrangement, arranged, and its rectangles. */
-function arranged(size, kept) {
+function arranged(size, kept, closed) {
   const made = new Arrangement(kept);
-  return { made, ...made.arrange(...size) };
+  return { made, ...made.arrange(...size, closed) };
 }
 
 const area = ({ width, height }) => width * height;
@@ -29,6 +29,20 @@ for (const size of [LAPTOP, WIDE, [1280, 1280, 796], [861, 861, 400], [2560, 256
         other.left < one.left + one.width && one.top < other.top + other.height &&
         other.top < one.top + one.height);
       assert.deepEqual(covers, []);
+    }
+  });
+}
+
+for (const closed of [{ list: 34 }, { state: 106 }, { list: 34, state: 106 }]) {
+  test(`with ${Object.keys(closed).join(" and ")} closed, each has its pixels, and the others the rest`, () => {
+    for (const size of [LAPTOP, WIDE]) {
+      const { panes, splitters } = arranged(size, undefined, closed), all = [...panes.values(), ...splitters.values()];
+      assert.equal(all.reduce((sum, one) => sum + area(one), 0), size[1] * size[2]);
+      for (const [name, high] of Object.entries(closed)) {
+        assert.equal(panes.get(name).height, high);
+        assert.equal(splitters.has(name), false);
+      }
+      if (closed.state) assert.equal(panes.get("screen").left, panes.get("state").left);
     }
   });
 }

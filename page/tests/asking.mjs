@@ -10,6 +10,7 @@ import { begun } from "./engines.mjs";
 import { pasteOver } from "./editing.mjs";
 import { IDLE } from "./jumps.mjs";
 import { PAGE, TOP } from "./loading.mjs";
+import { openParts } from "./parts.mjs";
 
 const LARGE = { width: 1900, height: 1500 };
 const SIZES = [{ width: 1366, height: 768 }, { width: 1920, height: 1080 },
@@ -298,6 +299,7 @@ try {
   await browser.look(LARGE);
   await browser.open(pathToFileURL(resolve(PAGE)).href);
   await browser.until(IDLE);
+  await openParts(browser);
   for (const [name, does] of Object.entries(PARTS)) {
     await does();
     assert.deepEqual(await browser.heard(), [], "the console");

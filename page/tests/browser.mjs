@@ -13,6 +13,7 @@ import { Browser } from "./driving.mjs";
 import { TEXT, select, textIs } from "./editing.mjs";
 import { IDLE, LONG, figuresOf, figuresText, fragmentOf, isIdle, jumpsIn } from "./jumps.mjs";
 import { FONTS, PAGE, TOP, pageData, withMemory } from "./loading.mjs";
+import { openParts } from "./parts.mjs";
 
 const ADDRESS = pathToFileURL(resolve(PAGE)).href, SHOTS = process.argv[2];
 const WIDE = { width: 1280, height: 860 }, NARROW = { width: 390, height: 844, scale: 2 };
@@ -27,6 +28,7 @@ const fragment = async (script, more = "") => await fragmentOf(script) + more;
 async function open(hash = "", address = ADDRESS) {
   await browser.open(address + hash);
   await browser.until(IDLE);
+  await openParts(browser);
   await settled();
 }
 

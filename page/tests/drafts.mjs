@@ -76,8 +76,10 @@ test("of too many scripts, or too long ones, the oldest go", () => {
   for (let i = 0; i < 30; i++) drafts.keep(all[i] = script(), `; script ${i}\n${"frame\n".repeat(100)}`);
   assert.equal(drafts.list().length, 20);
   assert.equal(drafts.list().at(-1).title, "script 10");
-  for (let i = 0; i < 5; i++) drafts.keep(script(), `; long ${i}\n`.padEnd(LONGEST_KEPT, "; more\n"));
-  assert.deepEqual(drafts.list().map(({ title }) => title), ["long 4", "long 3", "long 2", "long 1"]);
+  for (let i = 0; i < 5; i++) drafts.keep(script(), `; long ${i}\n`.padEnd(1000000, "; more\n"));
+  assert.deepEqual(drafts.list().map(({ title }) => title), ["long 4", "long 3", "long 2"]);
+  assert.equal(drafts.keep(script(), "; longest\n".padEnd(LONGEST_KEPT, "; more\n")), "");
+  assert.deepEqual(drafts.list().map(({ title }) => title), ["longest", "long 4"]);
 });
 
 test("a storage that is full, or forbidden, and a script that is too long, are told", () => {

@@ -4,6 +4,7 @@ import { mkdtempSync, rmSync, statSync } from "node:fs";
 import { createServer } from "node:net";
 import { tmpdir } from "node:os";
 import { pasting } from "./editing.mjs";
+import { CLOSE, middleOf } from "./parts.mjs";
 
 const NAMES = ["chromium", "chromium-browser", "google-chrome"];
 /** So many milliseconds something may take, on a machine on which much else runs. */
@@ -157,13 +158,9 @@ export class Browser {
   }
 
   async click(selector) {
-    const [x, y] = await this.value(`(() => {
-      const control = document.querySelector(${JSON.stringify(selector)});
-      control.scrollIntoView({ block: "nearest" });
-      const box = control.getBoundingClientRect();
-      return [box.left + box.width / 2, box.top + box.height / 2];
-    })()`);
+    const [x, y, isOpened] = await this.value(middleOf(selector));
     await this.clickAt(x, y);
+    if (isOpened) await this.value(CLOSE);
   }
 
   moveTo(x, y) {

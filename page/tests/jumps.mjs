@@ -14,6 +14,7 @@ import { fileURLToPath, pathToFileURL } from "node:url";
 import { packed } from "../files/share.js";
 import { Browser } from "./driving.mjs";
 import { PAGE, examples } from "./loading.mjs";
+import { openParts } from "./parts.mjs";
 
 const WIDE = { width: 1280, height: 860 }, TABS = 8, SHARE_IDLE = 0.85;
 /** 3,000,001 steps. */
@@ -92,6 +93,7 @@ function* randomSteps(length) {
 export async function jumpsIn(browser, page, hash, count) {
   await browser.open(pathToFileURL(resolve(page)).href + hash);
   await browser.until(IDLE);
+  await openParts(browser);
   const length = await browser.value("Number(document.getElementById('slider').max)");
   const random = randomSteps(length), jumps = [];
   for (let tab = 1; tab <= TABS; tab++) {

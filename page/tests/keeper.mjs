@@ -1,7 +1,7 @@
 // That the run which is under way is kept as it goes on, and what becomes of it when it ends: nothing is lost.
 import assert from "node:assert/strict";
 import test from "node:test";
-import { Keeper } from "../machine/keeper.js";
+import { DEAD, Keeper } from "../machine/keeper.js";
 import { Runs } from "../machine/runs.js";
 import { FakePage } from "./fakepage.mjs";
 import { Shelf, Storage } from "./storages.mjs";
@@ -213,6 +213,33 @@ test("the run that is on when the page is left is offered once", async () => {
   const { title, id } = next.keeper.left();
   assert.deepEqual([title, id], ["echo.com, 3.0 s", runs.list()[0].id]);
   assert.equal(next.keeper.left(), null);
+});
+
+test("a run that was on in a page which was killed is offered once it is sure, and in its own tab at once", async () => {
+  globalThis.sessionStorage = new Storage();
+  const { keeper, live, runs, storage, shelf, pass } = made();
+  pass(2);
+  keeper.note();
+  await settled();
+  const [{ id }] = runs.list();
+  // It is on there as long as that page notes it, also while it is paused.
+  assert.equal(made(storage, shelf).keeper.left(), null);
+  performance.getEntriesByType = () => [{ type: "reload" }];
+  assert.equal(new Keeper(runs, () => null, () => {}).left().id, id);
+  keeper.note();
+  page.turn();
+  delete performance.getEntriesByType;
+  const later = new Runs(() => storage, shelf, () => 1000 + DEAD + 60000), other = new Keeper(later, () => null, () => {});
+  const found = other.left();
+  assert.deepEqual([found.id, found.title], [id, "echo.com, 2.0 s"]);
+  assert.equal(other.left(), null);
+  // One that was switched off is none of these.
+  live.state = "paused";
+  keeper.note();
+  page.turn();
+  keeper.end();
+  assert.equal(new Keeper(later, () => null, () => {}).left(), null);
+  assert.deepEqual(runs.beats(), []);
   // A paused one is left as it is, too.
   live.state = "paused";
   page.document.hidden = false;

@@ -2,7 +2,7 @@
 // nothing. bench/calls.c makes the same calls of the library for C.
 
 const ROUNDS = 7, FRAMES = 60, CALLS = 1000000, PUTS = 10000, SLICE = 2040, RUNS = 20;
-const WIDEST = 2304, HIGHEST = 1024;
+const WIDEST = 2304, HIGHEST = 1024, ROOM_OF_CARD = 64;
 const HEADER = [0x56, 0x47, 0x41, 0x53, 1], PUT = [5, 0, 0, 0x0a, 0, 0x41];
 const MODE_13 = [9, 0x13, 0, 0, 0, 0, 0, 0, 0, 0, 0];
 
@@ -19,7 +19,7 @@ async function opened(module, fonts) {
     new Uint8Array(exports.memory.buffer).set(bytes, at);
     return at;
   };
-  const card = given(new Uint8Array(16)), font = given(fonts), fontLength = fonts.length;
+  const card = given(new Uint8Array(ROOM_OF_CARD)), font = given(fonts), fontLength = fonts.length;
   right(exports.zak_open(card, font, fontLength));
   return { exports, room, given, card, font, fontLength };
 }

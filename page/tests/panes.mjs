@@ -3,7 +3,8 @@
 // node page/tests/panes.mjs [ENGINE [WORDS]]: ENGINE is chromium or firefox. With WORDS only the
 // checks are done whose names have them. ZAKLIMOT_PAGE names another page.
 import assert from "node:assert/strict";
-import { check } from "./using.mjs";
+import { IDLE } from "./jumps.mjs";
+import { ADDRESS, check } from "./using.mjs";
 
 const LAPTOP = { width: 1366, height: 768 }, WIDE = { width: 1920, height: 1080 };
 const PHONE = { width: 390, height: 844 };
@@ -11,10 +12,10 @@ const BANDS = "#example=raster-bands&step=100";
 
 /** In the page: places of the columns and of the list, from so many pixels on, at which no row stands. */
 const gaps = from => `[["gutter", "number"], ["told", "answer"], ["listing", "row"]].flatMap(([id, row]) => {
-  const { left, top, width, height } = document.getElementById(id).getBoundingClientRect();
-  const isRow = one => one.classList.contains(row);
+  const box = document.getElementById(id), { top, height } = box.getBoundingClientRect();
+  const rows = [...box.querySelectorAll("." + row)].map(one => one.getBoundingClientRect());
   return Array.from({ length: Math.floor(height / 4) - 3 }, (_, i) => ${from} + 4 * i)
-    .filter(y => !document.elementsFromPoint(left + width / 2, top + y).some(isRow)).map(y => [id, y]);
+    .filter(y => !rows.some(one => one.top <= top + y && one.bottom > top + y)).map(y => [id, y]);
 })`;
 /** In the page: texts that are wider than their boxes, those that are cut off and those that are not. */
 const WIDER = `[true, false].map(isCut => [...document.querySelectorAll(".answer, .row span")].filter(one =>
@@ -60,7 +61,82 @@ await check(use => {
     await use.stepIs(step);
   }
 
+  /** Opens the page as one who has never seen it: nothing is kept, and nothing asked for. */
+  async function atFirst() {
+    await use.open(BANDS);
+    await use.value("localStorage.clear()");
+    await browser.open(ADDRESS);
+    await use.until(IDLE);
+    await use.pause();
+  }
+
+  const isSeen = id => use.value(`document.getElementById("${id}").checkVisibility()`);
+
   return {
+    async "at first sight: one sentence, one large picture that is drawn, three things to do, and little else"() {
+      for (const size of [LAPTOP, WIDE, PHONE]) {
+        await browser.look(size);
+        await atFirst();
+        const told = await use.value("document.querySelector('#welcome p').textContent.replace(/\\s+/g, ' ')");
+        assert.match(told, /^This is a VGA display adapter that you can take apart: [^.]*\.$/);
+        for (const selector of ["#welcome p", "#trychange", "#trydrop", "#tryback", "#picture", "#back", "#next"]) {
+          assert.ok(await use.isInSight(selector), `${selector} at ${size.width}`);
+        }
+        for (const id of ["panel", "listing", "gotonumber", "hairs", "savetext"]) {
+          assert.ok(!await isSeen(id), `${id} at ${size.width}`);
+        }
+        const { width, height } = await placeOf("#picture");
+        const share = width * height / (size.width * size.height);
+        assert.ok(share > 0.24, `the picture has ${share.toFixed(2)} of ${size.width}`);
+        // The beam draws it, until something is pressed.
+        const step = () => use.value("document.getElementById('slider').value");
+        if (Number(await step()) < 300) {
+          const early = Number(await step());
+          await use.until(`Number(document.getElementById("slider").value) > ${early}`);
+        }
+        await browser.press("End");
+        await use.stepIs(384);
+      }
+    },
+
+    async "the three things at first sight do what they say"() {
+      await atFirst();
+      await browser.click("#tryback");
+      await use.until("document.getElementById('play').textContent === 'play'");
+      await browser.press("End");
+      await use.stepIs(384);
+      await browser.click("#tryback");
+      await use.stepIs(383);
+      await browser.click("#trychange");
+      assert.equal(await use.value("document.activeElement.id"), "text");
+      await browser.press("Escape");
+      // What the user knows is not told again.
+      await browser.open(ADDRESS);
+      await use.until(IDLE);
+      assert.equal(await isSeen("welcome"), false);
+    },
+
+    async "parts open as they are needed, and stay open after a reload"() {
+      await atFirst();
+      await browser.press("End");
+      await browser.click("#tab2");
+      assert.deepEqual([await isSeen("panel"), await isSeen("listing")], [true, false]);
+      await browser.click("#openlist");
+      await use.pause();
+      assert.ok(await use.value("document.querySelectorAll('#listing .row').length") > 3);
+      await browser.open(ADDRESS);
+      await use.until(IDLE);
+      assert.deepEqual([await isSeen("panel"), await isSeen("listing")], [true, true]);
+      await browser.click("#openstate");
+      await browser.click("#openlist");
+      await use.pause();
+      assert.deepEqual([await isSeen("panel"), await isSeen("listing")], [false, false]);
+      await browser.press("3");
+      assert.equal(await isSeen("panel"), true);
+      await browser.press("/");
+      assert.ok(await use.isInSight("#stepfinder input"));
+    },
+
     async "on a laptop picture, transport and first registers are in sight at once"() {
       await anew();
       for (const selector of ["#picture", "#transport", "#looks", "#step", "#tabs",
@@ -279,7 +355,8 @@ await check(use => {
         await browser.press("Home");
         await use.pause();
         const [cut, spilt] = await use.value(WIDER);
-        assert.ok(cut.length > 0, `${width} pixels`);
+        // A phone's rows have room for these.
+        assert.ok(cut.length > 0 || width < 861, `${width} pixels`);
         assert.deepEqual(spilt, [], `${width} pixels`);
       }
     },

@@ -60,7 +60,7 @@ await check(use => {
     await use.open();
     await use.value(`(() => {
       const list = document.getElementById("examples");
-      list.value = [...list.options].find(({ textContent }) => textContent === "${name}.com").value;
+      list.value = "program ${name}.com";
       list.dispatchEvent(new Event("change", { bubbles: true }));
     })()`);
     await use.until(isLive);
@@ -91,9 +91,16 @@ await check(use => {
     await use.until(`document.getElementById("laststep").textContent !== ${before}`);
   }
 
+  const colourAt = (canvas, x, y) => use.value(`(() => {
+    const one = Object.assign(document.createElement("canvas"), { width: 1, height: 1 }), brush = one.getContext("2d");
+    brush.drawImage(document.getElementById("${canvas}"), -${x}, -${y});
+    return Array.from(brush.getImageData(0, 0, 1, 1).data);
+  })()`);
+
   const choose = name => use.value(`(() => {
     const list = document.getElementById("examples");
-    list.value = [...list.options].find(({ value, text }) => value === "${name}" || text.startsWith("${name}")).value;
+    list.value = [...list.options].find(({ value, text }) =>
+      ["${name}", "program ${name}"].includes(value) || text.startsWith("${name}")).value;
     list.dispatchEvent(new Event("change", { bubbles: true }));
   })()`);
   const isOff = "document.getElementById('machine').hidden && " +
@@ -355,8 +362,6 @@ await check(use => {
 
     async "its picture has the colours of the picture when it is paused"() {
       await run("hello");
-      const colourAt = (canvas, x, y) => use.value(`Array.from(document.getElementById("${canvas}")
-        .getContext("2d").getImageData(${x}, ${y}, 1, 1).data)`);
       await use.until("document.getElementById('live').width === 720");
       const place = [9 * 10, 16 * 4], live = await colourAt("live", ...place);
       assert.deepEqual(live, [0, 0, 170, 255], "blue");
@@ -382,7 +387,43 @@ await check(use => {
       assert.ok(turns < 30, `${turns} turns in a second`);
       assert.ok(looks >= 2, "with the cursor and without");
       await browser.press("a");
+      // Its screen stands there, whole, until its last frames are asked for.
+      await use.until("document.getElementById('livestate').textContent === 'The program has ended.'");
+      assert.deepEqual([await use.value("document.getElementById('machine').hidden"), await use.text("livepause")],
+        [false, "explain its last frames"]);
+      assert.deepEqual(await colourAt("live", 9 * 70, 16 * 24), [0, 0, 0, 255]);
+      assert.match(await use.value("document.title"), /^hello\.com, ended/);
+      await browser.press("Enter");
       await use.until("document.getElementById('pausedtime').textContent.includes('The program has ended')");
+      await browser.click("#pausedstart");
+      await use.until(`${isLive} && document.getElementById("livepause").textContent === "pause and explain"`);
+    },
+
+    async "the colours of PCs' BIOSes in mode 13: told of once, and had by who asks for them"() {
+      // mov ax, 13h; int 10h; mov ax, A000h; mov es, ax; mov byte es:[0], 28h; jmp $
+      const program = code("B81300 CD10 B800A0 8EC0 26C606000028 EBFE"), isTold = "!document.getElementById('livecolours').hidden";
+      await use.open();
+      await use.value("localStorage.removeItem('zaklimot-look-colours told')");
+      await openFile("red.com", program);
+      await use.until(isTold);
+      assert.ok(await use.isInSight("#livetheirs"));
+      // By its number it is 1, 2 and 0 thirds; PCs have red there.
+      const own = await colourAt("live", 0, 0);
+      await browser.click("#livetheirs");
+      await use.until(`${isLive} && parseFloat(document.getElementById("livestate").textContent) > 0.3`);
+      assert.deepEqual([own, await colourAt("live", 0, 0)].map(([red, green]) => [red > 200, green > 0]), [[false, true], [true, false]]);
+      assert.equal(await use.value(isTold), false);
+      // It is so after a reload, is told no more, and can be switched off.
+      await use.open();
+      await openFile("red.com", program);
+      await use.until("parseFloat(document.getElementById('livestate').textContent) > 0.3");
+      assert.equal((await colourAt("live", 0, 0))[0] > 200, true);
+      await browser.click("#livepalette");
+      await browser.click("#liverestart");
+      await use.until("parseFloat(document.getElementById('livestate').textContent) < 5");
+      await new Promise(done => setTimeout(done, 1500));
+      assert.deepEqual([await colourAt("live", 0, 0), await use.value(isTold)], [own, false]);
+      await browser.click("#liveclose");
     },
 
     async "what was there before these frames is told to stand in earlier ones"() {
@@ -441,7 +482,7 @@ await check(use => {
       assert.match(await use.value("document.title"), /^echo\.com, paused/);
       await browser.click("#pausedclose");
       await use.until(isOff);
-      assert.equal(await chosen(), "text-by-services");
+      assert.equal(await chosen(), "copper-bars");
       assert.match(await notice(), /^echo\.com, [\d.]+ s: it was switched off\. bring it back$/);
       await browser.click("#offered");
       assert.deepEqual(await seenPaused(), seen);
@@ -696,6 +737,8 @@ await check(use => {
       await browser.click("#pausedgo");
       await use.until(isLive);
       await use.value("document.getElementById('livedelete').scrollIntoView()");
+      await tap("#livemore summary");
+      await use.pause();
       await tap("#livedelete");
       await use.until("document.getElementById('notice').textContent.includes('was started again')");
       await use.until(isLive);

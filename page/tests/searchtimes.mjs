@@ -8,6 +8,7 @@ import { begun } from "./engines.mjs";
 import { IDLE } from "./jumps.mjs";
 import { LONG_SCRIPTS } from "./longsearches.mjs";
 import { PAGE } from "./loading.mjs";
+import { openParts } from "./parts.mjs";
 
 const [engine = "chromium", rounds = "3"] = process.argv.slice(2);
 /** What is asked about: the tab and the element of it, or a dot. */
@@ -46,6 +47,7 @@ try {
   await browser.look({ width: 1280, height: 860 });
   await browser.open(pathToFileURL(resolve(PAGE)).href);
   await browser.until(IDLE);
+  await openParts(browser);
   console.log(`| ${browser.name} | ${Object.keys(SUBJECTS).join(" | ")} |`);
   for (const [name, text] of Object.entries(LONG_SCRIPTS)) {
     const title = `${name.replace(/\W+/g, "-")}.vga`, file = `${folder}/${title}`, times = [];

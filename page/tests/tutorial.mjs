@@ -10,6 +10,7 @@ import { TEXT, pasteOver, select } from "./editing.mjs";
 import { begun } from "./engines.mjs";
 import { IDLE } from "./jumps.mjs";
 import { PAGE, TOP } from "./loading.mjs";
+import { openParts } from "./parts.mjs";
 import { smallShot } from "./shots.mjs";
 
 // The window of the pictures; and one in which each dot has more than a pixel, to be pointed at.
@@ -205,6 +206,7 @@ try {
   await browser.look(browser.hasWholePixels ? LARGE : WINDOW);
   await browser.open(pathToFileURL(resolve(PAGE)).href);
   await ready();
+  await openParts(browser);
   for (const [name, does] of Object.entries(PARTS)) {
     await does();
     assert.deepEqual(await browser.heard(), [], "the console");

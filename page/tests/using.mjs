@@ -5,6 +5,7 @@ import { pathToFileURL } from "node:url";
 import { begun } from "./engines.mjs";
 import { IDLE, fragmentOf } from "./jumps.mjs";
 import { PAGE } from "./loading.mjs";
+import { openParts } from "./parts.mjs";
 
 export const ADDRESS = pathToFileURL(resolve(PAGE)).href;
 /** Milliseconds that a check waits for one thing. The longest wait took 15 seconds, beside three times other work. */
@@ -36,6 +37,7 @@ export class Use {
   async open(hash = "") {
     await this.browser.open(ADDRESS + hash);
     await this.until(IDLE);
+    await openParts(this.browser);
     await this.pause();
   }
 

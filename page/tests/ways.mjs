@@ -5,7 +5,7 @@ import assert from "node:assert/strict";
 import { createHash } from "node:crypto";
 import test from "node:test";
 import { Machine } from "../machine/machine.js";
-import { WIDEST } from "../../javascript/zaklimot.js";
+import { CARD_SIZE, WIDEST } from "../../javascript/zaklimot.js";
 import { FONTS, machineParts } from "./loading.mjs";
 import { Random, hostileProgram, word } from "./hostile.mjs";
 
@@ -265,7 +265,7 @@ class Card {
     const one = this.#machine, { calls, card, room } = one;
     one.boot({ program: Uint8Array.of(0xf4) });
     calls.zak_close(card);
-    one.adapterBytes.fill(0, card, card + 16);
+    one.adapterBytes.fill(0, card, card + CARD_SIZE);
     assert.equal(calls.zak_open(card, one.font, one.fontBytes), 0);
     for (const [i, { dots, kind, isRefused, address, value }] of records.entries()) {
       calls.zak_advance(card, dots);

@@ -3,6 +3,7 @@
 // by another protocol.
 import { PATIENCE } from "./driving.mjs";
 import { pasting } from "./editing.mjs";
+import { CLOSE, middleOf } from "./parts.mjs";
 
 const PAUSE = 20;
 // WebDriver's numbers of keys.
@@ -101,13 +102,9 @@ export class Driven {
   }
 
   async click(selector) {
-    const [x, y] = await this.value(`(() => {
-      const control = document.querySelector(${JSON.stringify(selector)});
-      control.scrollIntoView({ block: "nearest" });
-      const box = control.getBoundingClientRect();
-      return [box.left + box.width / 2, box.top + box.height / 2];
-    })()`);
+    const [x, y, isOpened] = await this.value(middleOf(selector));
     await this.clickAt(x, y);
+    if (isOpened) await this.value(CLOSE);
   }
 
   async press(key, { shift = false, control = false } = {}) {

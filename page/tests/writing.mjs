@@ -9,6 +9,7 @@ import { TEXT, caretAt, pasteOver, textIs } from "./editing.mjs";
 import { begun } from "./engines.mjs";
 import { IDLE, LONG, fragmentOf } from "./jumps.mjs";
 import { PAGE } from "./loading.mjs";
+import { openParts } from "./parts.mjs";
 
 const ADDRESS = pathToFileURL(resolve(PAGE)).href, WINDOW = { width: 1280, height: 860 };
 const { browser } = await begun(), seen = [];
@@ -27,6 +28,7 @@ const says = (selector, words) =>
 async function open(hash = "") {
   await browser.open(ADDRESS + hash);
   await until(IDLE);
+  await openParts(browser);
   await pause();
 }
 

@@ -14,7 +14,7 @@ const THREE_COLUMNS = 1600;
  */
 const ARRANGEMENTS = {
   two: {
-    name: "script", label: "width of the script", axis: "x", usual: 0.4, least: [250, 330],
+    name: "script", label: "width of the script", axis: "x", usual: 0.36, least: [250, 330],
     halves: [
       { name: "list", label: "height of the script", axis: "y", usual: 0.62, least: [110, 80],
         halves: ["script", "list"] },
@@ -61,6 +61,7 @@ export class Arrangement {
   name = "stacked";
   #shares;
   #window = { left: 0, top: 0, width: 0, height: 0 };
+  #closed = {};
   #splits = new Map();
 
   /** `kept`: the shares that `shares` has answered before; anything else is ignored. */
@@ -76,12 +77,14 @@ export class Arrangement {
 
   /**
    * Arranges the panes in a window of so many pixels, of which they have so much: rectangles by the
-   * names of panes, and by those of splitters. Both are empty if panes are stacked.
+   * names of panes, and by those of splitters. Both are empty if panes are stacked. `closed` has the
+   * pixels of panes that are closed, each the second half of a split: `list` and `state`.
    */
-  arrange(windowWidth, width, height) {
-    this.name = windowWidth < TWO_COLUMNS ? "stacked"
-      : windowWidth < THREE_COLUMNS ? "two" : "three";
+  arrange(windowWidth, width, height, closed = {}) {
+    const isThree = windowWidth >= THREE_COLUMNS && closed.state === undefined;
+    this.name = windowWidth < TWO_COLUMNS ? "stacked" : isThree ? "three" : "two";
     this.#window = { left: 0, top: 0, width, height };
+    this.#closed = closed;
     this.#splits.clear();
     const panes = new Map(), splitters = new Map();
     if (this.name !== "stacked") {
@@ -91,11 +94,14 @@ export class Arrangement {
   }
 
   #split(split, rectangle, panes, splitters) {
-    const { name, axis, least, halves } = split, room = sizeOf(rectangle, axis) - SPLITTER;
-    const first = firstSize(room, this.#shareOf(split), least);
-    const from = first + SPLITTER, second = Math.max(0, room - first);
-    splitters.set(name, partOf(rectangle, axis, first, SPLITTER));
-    this.#splits.set(name, { split, rectangle, room, first });
+    const { name, axis, least, halves } = split, closed = this.#closed[name];
+    const isClosed = closed !== undefined, size = sizeOf(rectangle, axis), room = size - SPLITTER;
+    const first = isClosed ? Math.max(0, size - closed) : firstSize(room, this.#shareOf(split), least);
+    const from = isClosed ? first : first + SPLITTER, second = Math.max(0, size - from);
+    if (!isClosed) {
+      splitters.set(name, partOf(rectangle, axis, first, SPLITTER));
+      this.#splits.set(name, { split, rectangle, room, first });
+    }
     const parts = [partOf(rectangle, axis, 0, first), partOf(rectangle, axis, from, second)];
     halves.forEach((half, i) => {
       if (typeof half === "string") panes.set(half, parts[i]);

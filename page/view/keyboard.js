@@ -1,6 +1,7 @@
 // What is done at a press of a key, by the table in keys.js.
 import { KEYS, isOfList, keyName, takesText } from "./keys.js";
 import { byId } from "../common/dom.js";
+import { reveal } from "../common/flyout.js";
 
 const UNDO_KEYS = { z: "undo", y: "redo" };
 /** What is not seen while the picture has the full screen: who asks for it leaves that first. */
@@ -84,6 +85,7 @@ export class Keyboard {
     const made = byId(control);
     if (control === "text") return this.#editor.focus();
     if (control === "gotonumber") {
+      reveal(made);
       made.focus();
       return made.select();
     }

@@ -14,19 +14,21 @@ export class Panes {
   #main = document.querySelector("main");
   #arrangement;
   #settings;
+  #drawers;
   #splitters;
   /** Where the style sheets stack all. A window that was turned tells its own width late, and what it shows may widen it. */
   #narrow = matchMedia(`(max-width: ${TWO_COLUMNS - 1}px)`);
 
-  /** `settings` keeps where the splitters are. */
-  constructor(settings) {
+  /** `settings` keeps where the splitters are, and `drawers` has the panes that are closed. */
+  constructor(settings, drawers) {
     this.#settings = settings;
+    this.#drawers = drawers;
     this.#arrangement = new Arrangement(settings.get("panes"));
     this.#splitters = new Map(Object.keys(SPLITTERS).map(name => [name, this.#splitterOf(name)]));
     // In the next frame: what is arranged may change the size that is heard of.
-    new ResizeObserver(() => requestAnimationFrame(() => this.#arrange())).observe(this.#main);
-    this.#narrow.addEventListener("change", () => this.#arrange());
-    this.#arrange();
+    new ResizeObserver(() => requestAnimationFrame(() => this.arrange())).observe(this.#main);
+    this.#narrow.addEventListener("change", () => this.arrange());
+    this.arrange();
   }
 
   #splitterOf(name) {
@@ -40,9 +42,10 @@ export class Panes {
   }
 
   /** Puts the panes where they belong. */
-  #arrange() {
+  arrange() {
     const { clientWidth, clientHeight } = this.#main, arrangement = this.#arrangement;
-    const { panes, splitters } = arrangement.arrange(this.#windowWidth, clientWidth, clientHeight);
+    const { panes, splitters } = arrangement.arrange(this.#windowWidth, clientWidth, clientHeight,
+      this.#drawers.closed);
     document.body.dataset.columns = arrangement.name;
     for (const name of PANES) place(byId(`${name}pane`), panes.get(name));
     for (const [name, made] of this.#splitters) {
@@ -69,7 +72,7 @@ export class Panes {
 
   #moved() {
     this.#settings.set("panes", this.#arrangement.shares);
-    this.#arrange();
+    this.arrange();
   }
 
   #reset(name) {

@@ -16,10 +16,15 @@ export class Tabs {
   #seen = null;
   /** How far each panel is scrolled. */
   #scrolled = new Map();
+  #drawers;
 
-  /** `panels` has for each name a function that makes the panel's element of what is seen. */
-  constructor(panels) {
+  /**
+   * `panels` has for each name a function that makes the panel's element of what is seen. The panel stands in
+   * one of the `drawers`, which a tab opens.
+   */
+  constructor(panels, drawers) {
     this.#panels = panels;
+    this.#drawers = drawers;
     this.#buttons = TABS.map((name, i) => element("button", { type: "button", role: "tab",
       id: `tab${i + 1}`, title: `${name} (${i + 1})`, "aria-controls": "panel",
       onclick: () => this.open(name) }, name));
@@ -29,14 +34,22 @@ export class Tabs {
   /** Shows a state in the panel that is open. */
   show(seen) {
     this.#seen = seen;
-    this.open(this.selected);
+    this.draw();
   }
 
   /** Opens a tab. */
   open(name) {
+    this.selected = name;
+    this.#drawers.open("state");
+    this.draw();
+  }
+
+  /** Shows what the tab has that is open; nothing while the panel is closed. */
+  draw() {
+    const name = this.selected;
     if (this.#opened !== name) this.#mark(name);
-    this.selected = this.#opened = name;
-    if (!this.#seen) return;
+    this.#opened = name;
+    if (!this.#seen || !this.#drawers.isOpen("state")) return;
     const made = this.#panels[name](this.#seen);
     if (this.#panel.firstChild === made) return;
     this.#panel.replaceChildren(made);

@@ -12,14 +12,16 @@ const OUTWARD = ["back", "framebefore", "next", "frameafter"];
 /** The controls that go from step to step. */
 export class Transport {
   #runner;
+  #drawing;
   #points;
 
   /**
-   * `points` answers the breakpoints that are on. `guarded` calls what a control does, and tells
+   * `drawing` shows a run of one picture as the beam draws it. `points` answers the breakpoints that are on. `guarded` calls what a control does, and tells
    * what went wrong.
    */
-  constructor(runner, points, guarded) {
+  constructor(runner, drawing, points, guarded) {
     this.#runner = runner;
+    this.#drawing = drawing;
     this.#points = points;
     // No frame ends inside a call: who asks for one leaves the call.
     const outside = does => () => {
@@ -35,7 +37,7 @@ export class Transport {
       frameafter: outside(() => runner.find(FRAMES)),
       run: () => this.run(),
       last: () => runner.toEnd(),
-      play: outside(() => runner.play(!runner.isPlaying)),
+      play: outside(() => this.#play()),
     };
     for (const [name, does] of Object.entries(clicks)) {
       byId(name).addEventListener("click", () => guarded(does));
@@ -51,6 +53,14 @@ export class Transport {
         number.blur();
       });
     });
+  }
+
+  /** Shows frame after frame; a run of one picture step after step. What plays is stopped. */
+  #play() {
+    const runner = this.#runner, { session } = runner;
+    const isOne = session?.isDone && session.pictures <= 1 && !runner.isPlaying;
+    if (!isOne) return runner.play(!runner.isPlaying);
+    return this.#drawing.start(session.length, steps => runner.go(steps));
   }
 
   /** Runs to the next breakpoint, or to the end; stops what is under way. */
@@ -84,7 +94,7 @@ export class Transport {
   update() {
     const runner = this.#runner, { session, goal, isAtEnd, isPlaying } = runner;
     setText(byId("run"), runner.isBusy && !isPlaying ? "stop ■" : "run ▶▶");
-    setText(byId("play"), isPlaying ? "pause" : "play");
+    setText(byId("play"), isPlaying || this.#drawing.isOn ? "pause" : "play");
     if (runner.run === RUN.none) return;
     setAll(byId("slider"), { max: String(session.ran) });
     const isOut = name => runner.isWithin && OUTWARD.includes(name);

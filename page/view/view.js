@@ -1,7 +1,6 @@
 // The page: its parts, and what each hears of the others.
 import { Adapter } from "../run/adapter.js";
 import { aboutPage } from "./about.js";
-import { Asking } from "../explain/asking.js";
 import { BiosPanel } from "../panels/biospanel.js";
 import { CallRoom } from "./callroom.js";
 import { CellPanel } from "../panels/cellpanel.js";
@@ -10,9 +9,10 @@ import { ColourPanel } from "../panels/colourpanel.js";
 import { Comparison } from "../compare/comparison.js";
 import { Desk } from "./desk.js";
 import { Drafts } from "../editor/drafts.js";
+import { Drawers } from "./drawers.js";
+import { Drawing } from "./drawing.js";
 import { Editor } from "../editor/editor.js";
 import { Fonts } from "../files/fonts.js";
-import { Finder } from "../explain/finder.js";
 import { Keyboard } from "./keyboard.js";
 import { LastStep } from "./laststep.js";
 import { Listing } from "../editor/listing.js";
@@ -24,8 +24,9 @@ import { PageClock } from "../run/clock.js";
 import { Panes } from "./panes.js";
 import { PictureSize } from "../picture/size.js";
 import { PointPanel } from "../panels/pointpanel.js";
+import { Questions } from "./questions.js";
 import { RegisterPanel } from "../panels/registerpanel.js";
-import { Runner, TASK, stateText } from "../run/runner.js";
+import { Runner, stateText } from "../run/runner.js";
 import { Runs } from "../machine/runs.js";
 import { Saver } from "../files/saver.js";
 import { Screen } from "../picture/screen.js";
@@ -35,14 +36,14 @@ import { Settings } from "../common/settings.js";
 import { TABS, Tabs } from "./tabs.js";
 import { Transport } from "./transport.js";
 import { Trouble } from "../common/trouble.js";
-import { WatchPanel } from "../panels/watchpanel.js";
-import { MOST_WATCHES, Watches } from "../explain/watches.js";
+import { Welcome } from "./welcome.js";
 import { WritePanel } from "../panels/writepanel.js";
 import { byId, setAll, setText } from "../common/dom.js";
 import { bytesOfBase64, grouped } from "../common/bytes.js";
 import { Helper } from "../help/helper.js";
 import { Judge, LONG_TEXT } from "../run/judging.js";
 import { copyLink, showLink, showRunLink } from "../files/linking.js";
+import { followFlyouts } from "../common/flyout.js";
 import { followRowHeight } from "../common/rows.js";
 import { frameSeconds } from "../files/saving.js";
 import { keyTables } from "./keys.js";
@@ -57,10 +58,10 @@ export class View {
   notice = new Notice();
   /** The trouble of the line that is no step; null if there is none. */
   bad = null;
-  /** What is to be asked in the frames that are shown next: a subject, or null. */
-  #lookedFor = null;
   /** The program that runs, in words; nothing where none does. */
   #program = "";
+  /** Whether the script is the one that the page begins with, which is drawn once it has run. */
+  #isFirst = false;
 
   constructor(adapter, module, data) {
     this.adapter = adapter;
@@ -71,7 +72,6 @@ export class View {
     this.#makeRun();
     this.#makeScript();
     this.#makeState();
-    this.#makeAsking();
     this.#makeFiles();
     this.#makeControls();
     followRowHeight(() => this.#resized());
@@ -90,16 +90,19 @@ export class View {
       failed: error => this.#failed(error),
       frameTime: seen => (seen ? 1000 * frameSeconds(seen.after.registers) : NO_FRAME_TIME),
     });
-    this.transport = new Transport(this.runner, () => this.#activePoints, this.guarded);
+    this.drawing = new Drawing(() => this.#update());
+    this.transport = new Transport(this.runner, this.drawing, () => this.#activePoints, this.guarded);
     // The script that a worker runs too.
     const { textContent } = document.querySelector("script[type=module]");
     this.checkLine = new CheckLine(this.module, textContent);
     this.judge = new Judge(this.module, textContent);
     this.lastStep = new LastStep(this.data.pages, () => this.#enterCall());
-    const settings = new Settings();
-    this.panes = new Panes(settings);
-    this.screen = new Screen({ clicked: (line, dot) => this.asking.askDot(line, dot),
-      asked: () => this.#ask() });
+    const settings = this.settings = new Settings();
+    this.drawers = new Drawers(settings);
+    this.panes = new Panes(settings, this.drawers);
+    this.drawers.heard = () => this.#opened();
+    this.screen = new Screen({ clicked: (line, dot) => this.questions.askDot(line, dot),
+      asked: () => this.questions.ask() });
     this.size = new PictureSize(this.screen, settings);
     this.comparison = new Comparison(this.runner, this.screen, () => this.editor.isStale,
       this.guarded);
@@ -134,104 +137,28 @@ export class View {
   }
 
   #makeState() {
+    this.#makeQuestions();
     const { pages } = this.data;
     const panels = { registers: new RegisterPanel(pages), memory: new MemoryPanel(),
       cells: new CellPanel(), colours: new ColourPanel(pages), "BIOS data": new BiosPanel(pages),
-      write: new WritePanel(pages), watches: this.#makeWatches() };
+      write: new WritePanel(pages), watches: this.questions.panel };
     const makers = Object.entries(panels).map(([name, panel]) => [name, seen => panel.made(seen)]);
     this.tabs = new Tabs({ ...Object.fromEntries(makers),
-      breakpoints: () => this.pointPanel.box });
+      breakpoints: () => this.pointPanel.box }, this.drawers);
+    this.questions.titleWatches();
   }
 
-  #makeWatches() {
-    this.watches = new Watches();
-    return new WatchPanel(this.watches, { change: subject => this.#findChange(subject),
-      changed: () => this.#titleWatches() });
-  }
-
-  #titleWatches() {
-    const { length } = this.watches.list;
-    this.tabs.setTitle("watches", length ? `watches (${length})` : "watches");
-  }
-
-  /** What the user asks about a dot, or about what a panel shows. */
-  #makeAsking() {
-    this.finder = new Finder(this.runner, {
-      tell: text => this.notice.tell(text),
-      hasEarlier: () => this.room.hasEarlier,
-      older: text => this.notice.offer(text, "look in the frames before", () => this.#lookBefore("backToBegin")),
-    });
-    this.calls = new CallRoom(this.runner, this.finder, outer => this.#showPlace(outer), this.guarded);
-    byId("foundcycle").addEventListener("click", () => this.guarded(() => this.calls.enterFound()));
-    this.asking = new Asking({
-      madeAt: (words, seen) => this.finder.madeAt(words, seen),
-      drawn: (line, dot) => this.#toDot(line, dot),
-      change: subject => this.#findChange(subject),
-      watch: words => this.guarded(() => this.#watch(words)),
-      stop: points => {
-        const { pointPanel } = this, made = points.map(point => ({ ...point, isOn: true }));
-        pointPanel.change([...pointPanel.points, ...made]);
-        this.tabs.open("breakpoints");
-      },
-      colourAt: (line, dot) => this.screen.colourAt(line, dot),
-      placeOf: (line, dot) => this.screen.placeOfDot(line, dot),
-      isIdle: () => this.runner.task === TASK.idle && this.runner.isShown,
-    });
-    this.#titleWatches();
-    byId("panel").addEventListener("click", ({ target, clientX, clientY }) => {
-      const own = target.closest("a, input, select, label, button:not([data-subject])");
-      // A button that keys press has no place of its own.
-      const place = clientX || clientY ? { x: clientX, y: clientY } : null;
-      if (!own) this.asking.askAt(target, place);
-    });
-  }
-
-  #watch(words) {
-    if (!this.watches.add(words)) {
-      throw new Trouble(`The list has ${MOST_WATCHES} watches, and no room for more.`);
-    }
-    this.#titleWatches();
-    this.tabs.open("watches");
-  }
-
-  /** Asks about what has the keys, or about the dot under the pointer, or that of the beam. */
-  #ask() {
-    const { seen } = this.runner, { screen, asking } = this;
-    if (!seen || (!screen.pointed && asking.askAt(document.activeElement))) return;
-    const { line, dot } = screen.pointed ?? asking.dot ?? { line: 0, dot: 0 };
-    asking.askDot(line, dot);
-  }
-
-  /** Shows frames that come before those of the machine that is paused, and asks there what was asked last. */
-  #lookBefore(way) {
-    const { subject } = this.asking;
-    return this.guarded(() => {
-      this.room[way](1);
-      this.#lookedFor = subject;
-    });
-  }
-
-  /** Asks what was asked in other frames, once these have run. */
-  #lookOn() {
-    const { runner } = this, subject = this.#lookedFor;
-    if (!subject || this.room.isComingBack || !runner.session?.isDone || !runner.isShown) return;
-    this.#lookedFor = null;
-    this.#findChange(subject);
-  }
-
-  #findChange(subject) {
-    return this.guarded(() => this.finder.find(subject));
+  /** The questions, and the calls into which their answers lead. */
+  #makeQuestions() {
+    const { runner, screen, notice, pointPanel, guarded } = this;
+    this.questions = new Questions({ runner, screen, notice, pointPanel, guarded, tabs: () => this.tabs,
+      room: () => this.room });
+    this.calls = new CallRoom(runner, this.questions.finder, outer => this.#showPlace(outer), guarded);
+    byId("foundcycle").addEventListener("click", () => guarded(() => this.calls.enterFound()));
   }
 
   #enterCall() {
     return this.guarded(() => this.calls.enter());
-  }
-
-  /** Goes on to the change before, of what was asked about last. */
-  #findAgain() {
-    const { subject } = this.asking;
-    if (subject) this.#findChange(subject);
-    else this.#ask();
   }
 
   #makeFiles() {
@@ -239,7 +166,7 @@ export class View {
     this.opener = new Opener(this.data, this.scripts, TABS, {
       adapter: () => this.adapter,
       isEmpty: () => !runner.session && !editor.script,
-      script: (text, script, asked) => this.desk.load(text, script, asked),
+      script: (text, script, asked) => this.#open(text, script, asked),
       software: (bytes, name) => this.room.open(bytes, name),
       folder: (files, name) => this.room.openFiles(files, name),
       other: (found, name) => {
@@ -250,10 +177,10 @@ export class View {
       tab: name => this.tabs.open(name),
       step: number => runner.go(number),
     });
-    this.room = new MachineRoom(this.data, this.module, new Runs(), {
+    this.room = new MachineRoom(this.data, this.module, new Runs(), this.settings, {
       adapter: () => this.adapter,
       fonts: () => this.fonts.bytes,
-      show: session => this.#showSession(session),
+      show: (session, saved) => this.#showSession(session, saved),
       steps: () => runner.outer.steps,
       script: (text, name) => this.desk.load(text, this.scripts.made(name, name, true)),
       end: () => this.#run(0),
@@ -284,19 +211,22 @@ export class View {
       help: () => byId("helpbox").showModal(),
       ownfonts: () => this.#useFonts(null),
       takeback: () => this.desk.takeBack(),
-      olderframes: () => this.#lookBefore("backToBegin"),
-      oldersecond: () => this.#lookBefore("back"),
+      olderframes: () => this.questions.lookBefore("backToBegin"),
+      oldersecond: () => this.questions.lookBefore("back"),
     };
     for (const [name, does] of Object.entries(clicks)) {
       byId(name).addEventListener("click", () => this.guarded(does));
     }
-    this.helper = new Helper(this.editor, this.runner, this.data);
+    this.welcome = new Welcome(this.settings, { change: () => this.editor.focus(),
+      drop: () => byId("file").click(), back: () => this.runner.step(-1) });
+    followFlyouts();
+    this.helper = new Helper(this.editor, this.runner, this.data, () => this.drawers.open("list"));
     this.keyboard = new Keyboard({ editor: this.editor, tabs: this.tabs, menu: this.saver.menu,
       goToLine: line => this.guarded(() => this.transport.goTo("line", String(line))),
       togglePoint: line => this.pointPanel.toggleLine(line),
       orders: { larger: () => this.size.step(1), smaller: () => this.size.step(-1),
-        fill: () => this.size.choose(0), nextview: () => this.comparison.nextView(), ask: () => this.#ask(),
-        again: () => this.#findAgain(), into: () => this.#enterCall(),
+        fill: () => this.size.choose(0), nextview: () => this.comparison.nextView(), ask: () => this.questions.ask(),
+        again: () => this.questions.findAgain(), into: () => this.#enterCall(),
         intonext: () => this.guarded(() => this.calls.enterNext()), out: () => this.calls.leave() } });
     byId("keys").append(...aboutPage(), ...keyTables());
     byId("version").textContent = `Zaklimot ${this.data.version}.`;
@@ -306,6 +236,20 @@ export class View {
 
   #follow() {
     return this.guarded(() => this.opener.follow());
+  }
+
+  /** Opens a script. The one that the page begins with is drawn as the beam does it. */
+  #open(text, script, { isFirst = false, ...asked } = {}) {
+    const isStill = matchMedia("(prefers-reduced-motion: reduce)").matches;
+    this.#isFirst = isFirst && asked.asked === undefined && this.welcome.isOpen && !isStill;
+    return this.desk.load(text, script, this.#isFirst ? { ...asked, asked: 0 } : asked);
+  }
+
+  /** Shows what is in a part of the page that was opened or closed. */
+  #opened() {
+    this.panes.arrange();
+    this.tabs.draw();
+    this.listing.opened();
   }
 
   /** Shows lines and steps where their rows have another height. */
@@ -343,11 +287,15 @@ export class View {
     }
   }
 
-  /** Shows a session of the machine, whose steps have no text in the editor. */
-  #showSession(session) {
+  /**
+   * Shows a session of the machine, whose steps have no text in the editor: at once the picture of its end, by the saved
+   * state there, and all else once its steps are taken.
+   */
+  #showSession(session, saved) {
     this.#forget();
     this.runner.close();
-    this.runner.start(session);
+    this.runner.start(session, session.length);
+    if (saved) this.screen.show({ ...session.glimpse(saved), session });
     this.#setStale(false, null);
   }
 
@@ -374,11 +322,10 @@ export class View {
     this.listing.show(session, steps);
     session.spare = this.screen.show(seen);
     this.lastStep.show(seen);
-    this.#showFound(seen);
-    this.asking.show(seen);
+    this.questions.show(seen);
     this.tabs.show(seen);
     this.comparison.shown();
-    this.#lookOn();
+    this.questions.lookOn();
     this.calls.shown(seen);
   }
 
@@ -401,17 +348,9 @@ export class View {
   #nameProgram(words, isRunning) {
     this.scripts.program = words;
     this.#program = isRunning ? words : "";
+    if (words) this.welcome.close();
     setAll(byId("compared"), { hidden: isRunning });
     this.#update();
-  }
-
-  /** Tells why the page is at a step, if a search for a change has found it. */
-  #showFound({ session, steps }) {
-    const text = this.finder.textAt(session, steps), said = byId("found");
-    setText(said.firstElementChild, text);
-    setAll(said, { hidden: !text });
-    setAll(byId("older"), { hidden: !this.finder.isOlderAt(session, steps) });
-    setAll(byId("foundcycle"), { hidden: !this.finder.leadsWithin(session, steps) });
   }
 
   /** All steps are taken: their answers stand there, and are compared with those of zak_run. */
@@ -423,26 +362,23 @@ export class View {
       this.comparison.finished(session).catch(error => this.#failed(error));
     }
     if (!runner.isShown) return;
-    this.#lookOn();
+    this.questions.lookOn();
+    this.#drawFirst(session);
     this.listing.show(session, runner.steps);
     if (!this.room.isOn && !session.isCall) this.editor.draw();
+  }
+
+  #drawFirst({ length }) {
+    const isFirst = this.#isFirst && this.welcome.isOpen;
+    this.#isFirst = false;
+    if (!isFirst) return;
+    this.drawing.start(length, steps => this.runner.go(steps));
   }
 
   #tellNoneFound({ points, isBack }) {
     const what = points.map(pointText).join(", ").slice(0, MOST_WORDS);
     const { isCall, noun } = this.runner.session;
     this.notice.tell(`No ${isBack ? "earlier" : "later"} ${noun}${isCall ? " of this call" : ""} meets ${what}.`);
-  }
-
-  /** Goes to the step that draws a dot of the picture. */
-  #toDot(line, dot) {
-    const { seen, isBusy } = this.runner;
-    if (!seen || isBusy) return;
-    const isBack = seen.picture.isWhole || dot < seen.picture.drawn[line];
-    const points = [{ kind: "drawn", line, dot }];
-    // No cycle of a call draws a dot.
-    this.runner.leave();
-    this.guarded(() => this.runner.find(points, { isBack, isInclusive: true }));
   }
 
   get #activePoints() {

@@ -55,6 +55,8 @@ LEAST = 18
 # Seconds that a test may take, where much else runs beside it, and those of one in a browser.
 MOST_SECONDS = 300
 BROWSER_SECONDS = 900
+# All tests in node together; on two processors they take some five minutes.
+TESTS_SECONDS = 900
 TESTS = PAGE.parent / "tests"
 # What is done with the page in a browser: its check of all examples, what the tutorial says, what
 # a person does with keys and pointer, how long keys take, and each of its controls.
@@ -250,7 +252,9 @@ def check_scripts(module: Path, small: Optional[Path], folder: Path = TESTS) -> 
         **({} if small is None else {SMALL: str(small)}),
     }
     counts = dict(
-        COUNT.findall(run_node(["--test", "--test-reporter", REPORTER, *files], environment))
+        COUNT.findall(
+            run_node(["--test", "--test-reporter", REPORTER, *files], environment, TESTS_SECONDS)
+        )
     )
     passed = counts.pop("pass", "0")
     if passed == "0" or set(counts.values()) != {"0"}:

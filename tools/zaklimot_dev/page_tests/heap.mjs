@@ -1,9 +1,10 @@
 // The module's heap at random, and where its memory is spent: heap.mjs MODULE SMALL
 // MODULE has a memory that grows, and SMALL one of 16 MiB.
 import { readFileSync } from "node:fs";
+import { CARD_SIZE } from "../../../javascript/zaklimot.js";
 
 const ROUNDS = 100_000;
-const OK = 0, OUT_OF_MEMORY = 23, FONTS_SIZE = 9728, CARD_SIZE = 16;
+const OK = 0, OUT_OF_MEMORY = 23, FONTS_SIZE = 9728;
 // A script of bytes, version 1, with one step: `frame`.
 const FRAME = [0x56, 0x47, 0x41, 0x53, 1, 0x0B];
 const [module, small] = process.argv.slice(2);
