@@ -177,7 +177,7 @@ class IndexedPicture:
     """The picture of a frame: `height` rows of `width` numbers of colours, and their palette.
 
     `picture[x, y]` is the number of a dot's colour, 0 to 255, and `palette[number]` that colour, a
-    word 00RRGGBB with eight bits per component. The palette is a tuple of 1 to 256 words: the
+    word 00RRGGBB with eight bits per component. The palette is a tuple of at most 256 words: the
     colours of this picture, each once, in the order in which they first appear. `numbers` is a
     memoryview of width * height bytes, rows from the top, dots from the left. With numpy,
     `numpy.asarray(picture)` has the shape (height, width), without a copy, and takes y first.

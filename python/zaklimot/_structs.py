@@ -25,7 +25,12 @@ FIRST_STATE, MOST_STATE = 265_086, 7_342_974
 
 
 class zak_card(Structure):
-    _fields_ = [("is_open", BOOL), ("owed", U32), ("machine", ctypes.c_void_p)]
+    _fields_ = [
+        ("is_open", BOOL),
+        ("owed", U32),
+        ("line", U32 * 2),
+        ("machine", ctypes.c_void_p),
+    ]
 
 
 class zak_timing(Structure):

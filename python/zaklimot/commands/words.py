@@ -13,7 +13,7 @@ from zaklimot.commands.core.words import MOST_STEP, number_to, seconds
 from zaklimot.commands.floppy.words import add_floppy
 from zaklimot.commands.images.words import IMAGES, add_shape, within
 from zaklimot.commands.report.words import add_command
-from zaklimot.commands.script.words import add_program
+from zaklimot.commands.script.words import add_fonts
 from zaklimot.commands.steps.words import add_steps
 from zaklimot.commands.trace.asked import STILL
 from zaklimot.commands.trace.words import add_trace
@@ -52,7 +52,7 @@ def _add_compare(parser: argparse.ArgumentParser) -> None:
     )
     add(parser, "--still SECONDS", told, type=seconds)
     add_shape(parser)
-    add_program(parser)
+    add_fonts(parser)
 
 
 def _compare(commands: cli.Commands) -> None:

@@ -17,6 +17,13 @@ BETWEEN = re.compile(", | and ")
 PUNCTUATION = "=,;:."
 
 
+# How a line of a processor's language looks, and what is told of it.
+OF_PROCESSOR = re.compile(rb"\s*(?:in\s+(?:al|ax)\b|out\s+\w+\s*,\s*(?:al|ax)\b)", re.I)
+NO_STEP = (
+    "this is a processor's line: a step has the port and the value alone, as in 3DA or out 3C2 67"
+)
+
+
 class Mistake(NamedTuple):
     """The line of a text that is wrong, from 1, or 0; the part of it, in characters, of which a
     whole line has none; and why."""
@@ -39,7 +46,8 @@ def mistake_in(data: bytes) -> Optional[Mistake]:
     is_whole = told.kind == zaklimot.MistakeKind.ORDER
     at = len(text_of(line[: told.start]))
     width = 0 if is_whole else max(1, len(part))
-    return Mistake(told.line, at, width, _with_hint(told.sentence, part))
+    sentence = NO_STEP if OF_PROCESSOR.match(line) else _with_hint(told.sentence, part)
+    return Mistake(told.line, at, width, sentence)
 
 
 def _with_hint(sentence: str, word: str) -> str:

@@ -13,7 +13,16 @@ from io import BytesIO
 from itertools import zip_longest
 from typing import Iterator, Optional, Sequence
 
-from zaklimot.format import BLOCK_LINES, READING, REGISTERS, Answer
+from zaklimot.format import BLOCK_LINES, READING, REFUSALS, REGISTERS, Answer, Step, parse_line
+from zaklimot.format.table import (
+    CALLED,
+    DUMP,
+    OK,
+    PICTURE,
+    READ_BYTE,
+    READ_WORD,
+    refusal_of,
+)
 from zaklimot.commands.core.trouble import Trouble
 from zaklimot.commands.explain.wordings import WORDINGS
 from zaklimot.commands.script.reading import text_of
@@ -90,6 +99,58 @@ def is_as_expected(step: Answer, expected: str, words: str) -> bool:
     # Registers of a call that are not named may be any.
     parts = wanted.split()
     return bool(parts) and all("=" in part for part in parts) and set(parts) <= set(answer.split())
+
+
+# The forms of answers, by their kinds, and what a mistake is told to be.
+FORMS_OF_ANSWERS = {
+    OK: ("ok", "it answers `ok`, or is refused"),
+    READ_BYTE: ("[0-9a-f]{2}", "it answers a byte of two digits, as `= 05`, or is refused"),
+    READ_WORD: ("[0-9a-f]{4}", "it answers a word of four digits, as `= 0005`, or is refused"),
+    PICTURE: (
+        r"ragged|picture [1-9][0-9]*x[1-9][0-9]*( [0-9a-f]{32})?",
+        "it answers a picture, as `= picture 720x400`, with its digest or without",
+    ),
+    CALLED: (
+        r"((a|b|c|d)x=[0-9a-f]{4} ?)+(block [0-9a-f]+)?",
+        "it answers registers, as `= ax=0041`, or is refused",
+    ),
+}
+LIKE_REFUSAL = re.compile("(e[0-9]{1,3})( [a-z0-9]+)?")
+
+
+def why_never(expected: str, words: str) -> str:
+    """Why no answer of a step with these words meets what is expected, and what would be; empty
+    where one may."""
+    step = step_of_words(words)
+    wanted = expected.lower()
+    if step is None or step.form.answer == DUMP or wanted in (ANY, "skipped", ""):
+        return ""
+    form, cure = FORMS_OF_ANSWERS[step.form.answer]
+    if re.fullmatch(form, wanted) or wanted.endswith(FRONT):
+        return ""
+    refusal = LIKE_REFUSAL.fullmatch(wanted)
+    if refusal is None:
+        return f"no answer of `{step.name}` is `{expected}`: {cure}"
+    refusals = {f"E{number}": name for number, name in REFUSALS.items()}
+    name = refusals.get(refusal[1].upper())
+    if name is None:
+        return f"there is no refusal {refusal[1].upper()}: they are E1 to E{len(refusals)}"
+    whole = f"{refusal[1].upper()} {name}"
+    if refusal[2] is not None and refusal[0] != whole.lower():
+        return f"there is no refusal `{expected}`: {refusal[1].upper()} is {name}"
+    if int(refusal[1][1:]) not in step.form.refusals:
+        known = ", ".join(refusal_of(number) for number in step.form.refusals) or "never"
+        return f"`{step.name}` is never refused as {whole}: it is refused as {known}"
+    return ""
+
+
+@lru_cache(4096)
+def step_of_words(words: str) -> Optional[Step]:
+    """The step of these words; None where they are none."""
+    try:
+        return parse_line(words.lower().split())
+    except (ValueError, IndexError):
+        return None
 
 
 def is_worth_telling(step: Answer, words: str) -> bool:

@@ -27,6 +27,8 @@ RUN = re.compile(r"([0-9A-F]{6})(?:\*([1-9][0-9]{0,6}))?")
 MOST_SHOWN = 40
 END = "the end"
 DONE = "ok"
+# How the answer of a call begins.
+CALLED = "ax="
 
 
 class Report(format.Report):
@@ -186,10 +188,14 @@ class Comparison:
     Without refusals, the first report is that of a bus that refuses nothing: where the other has a
     refusal, any answer counts as skipped. Of a machine, which would go on from a state of its own
     there, all behind it does too, whether its report has it or not.
+
+    Of an adapter without a BIOS, all behind the first call that is skipped counts as skipped: what
+    later steps answer hangs on it.
     """
 
     has_refusals: bool = True
     is_machine: bool = False
+    ends_at_call: bool = False
     steps: int = 0
     pictures: int = 0
     skipped: int = 0
@@ -217,6 +223,7 @@ class Comparison:
                 return
             self.steps += 1
             self.pictures += step.picture is not None
+            is_left = is_left or self.ends_at_call and _is_skipped_call(step, other)
             is_alike = _are_alike(step, other)
             # In the place of a refusal any answer will do to a bus that refuses nothing.
             may_be_any = not self.has_refusals and other.kind == REFUSAL
@@ -232,6 +239,11 @@ class Comparison:
         """What was seen."""
         seen = [counted(self.steps, "step"), counted(self.pictures, "picture")]
         return ", ".join(seen + ([f"{self.skipped} skipped"] if self.skipped else []))
+
+
+def _is_skipped_call(step: Answer, other: Answer) -> bool:
+    """Whether a call is skipped that would be done."""
+    return step.answer == SKIPPED and other.answer.startswith(CALLED)
 
 
 def _are_alike(step: Answer, other: Answer) -> bool:

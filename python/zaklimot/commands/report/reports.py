@@ -6,7 +6,8 @@ import sys
 from contextlib import contextmanager
 from typing import Callable, Iterator, Optional, Sequence, Union
 
-from zaklimot.format import MOST_ADVANCE, Answer, Digest, Picture
+import zaklimot
+from zaklimot.format import HEADERS, MOST_ADVANCE, Answer, Digest, Picture, Script, encoded
 from zaklimot.commands.core.files import STANDARD, files, name_of
 from zaklimot.commands.core.progress import Progress
 from zaklimot.commands.core.streams import (
@@ -19,11 +20,12 @@ from zaklimot.commands.core.streams import (
     writing,
 )
 from zaklimot.commands.core.trouble import AGREED, DIFFERED, Trouble
-from zaklimot.commands.explain.clocks import USUAL, Registers
 from zaklimot.commands.explain.faults import read_script, script_of
 from zaklimot.commands.images.holding import held, held_size
 from zaklimot.commands.images.png import Animation, Shape, save_png
 from zaklimot.commands.images.reading import image_bytes, image_of, size_of
+from zaklimot.commands.script.library import use_library
+from zaklimot.commands.script.speed import USUAL, passed_of, seconds_of, speed_of
 
 from .report import Comparison, Difference, Expected, Report
 
@@ -118,26 +120,11 @@ def pictures(words: argparse.Namespace, progress: Progress) -> int:
 
 def delays_of(script: Optional[str], to_the_end: bool = False) -> Callable[[int], float]:
     """How long the frame of a step lasts, with the whole frames that an advance passes over behind
-    it, as a script tells it. What stands behind the last frame may count too."""
+    it, as a card tells that takes the script. What stands behind the last frame may count too."""
     if script is None:
         return lambda number: USUAL
-    registers = Registers()
     name = name_of(script)
-    frames: dict[int, float] = {}
-    last = 0
-    dots = 0
-    for number, step in enumerate(script_of(read_script(script), name).steps(), 1):
-        registers.take(step)
-        if step.name == "advance" and step.numbers[0] <= MOST_ADVANCE:
-            dots += step.numbers[0]
-        if step.name == "frame":
-            if last:
-                frames[last] += _passed(dots, registers)
-            frames[number] = registers.frame()
-            last = number
-            dots = 0
-    if last and to_the_end:
-        frames[last] += _passed(dots, registers)
+    frames = _lasting(script_of(read_script(script), name), to_the_end)
 
     def delay(number: int) -> float:
         if number not in frames:
@@ -153,10 +140,31 @@ def delays_of(script: Optional[str], to_the_end: bool = False) -> Callable[[int]
     return delay
 
 
-def _passed(dots: int, registers: Registers) -> float:
-    """The seconds of the whole frames in so many dots; 0 where the script doesn't tell."""
-    speed = registers.speed()
-    return 0 if speed is None else dots // speed.dots * speed.dots / speed.clock
+def _lasting(script: Script, to_the_end: bool) -> dict[int, float]:
+    """The seconds of each frame of a script, by the numbers of their steps."""
+    use_library()
+    frames: dict[int, float] = {}
+    last = dots = 0
+    taken = bytearray(HEADERS[1])
+    with zaklimot.Card() as card:
+        for number, step in enumerate(script.steps(), 1):
+            if step.name == "frame":
+                card.run_on(bytes(taken))
+                speed = speed_of(card)
+                if last:
+                    frames[last] += passed_of(speed, dots)
+                frames[number] = seconds_of(speed)
+                last, dots = number, 0
+                taken[:] = HEADERS[1]
+            elif step.name == "advance":
+                # The card stays at the first dot of a frame.
+                dots += step.numbers[0] if step.numbers[0] <= MOST_ADVANCE else 0
+            elif not step.name.startswith("show"):
+                taken += encoded(step)
+        card.run_on(bytes(taken))
+        if last and to_the_end:
+            frames[last] += passed_of(speed_of(card), dots)
+    return frames
 
 
 def _write_picture(words: argparse.Namespace, stem: str, picture: Picture, shape: Shape) -> None:

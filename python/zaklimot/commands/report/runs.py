@@ -11,11 +11,12 @@ from zaklimot.commands.core.cli import say
 from zaklimot.commands.core.files import STANDARD, name_of
 from zaklimot.commands.core.progress import Progress
 from zaklimot.commands.core.streams import teller
-from zaklimot.commands.core.trouble import AGREED, DIFFERED
+from zaklimot.commands.core.trouble import AGREED, DIFFERED, Trouble
 from zaklimot.commands.explain.faults import read_script
 from zaklimot.commands.script.own import OwnProgram, own_program
 from zaklimot.commands.script.program import BuiltProgram, found_program
 
+from .expecting import why_never
 from .folders import run_several
 from .listing import RunScript, tallied
 from .modes import Tell, mode_of
@@ -96,7 +97,11 @@ def run_script(
             for row in script.rows(fonts, words.until, progress, words.strict, tells_why):
                 if not tally.steps:
                     mode.begin(script.width)
-                mode.take(row, tally.count(row))
+                is_wrong = tally.count(row)
+                mode.take(row, is_wrong)
+                never = why_never(row.expected or "", row.words) if is_wrong else ""
+                if never and not words.bless:
+                    raise Trouble(never, shown, row.line)
             progress.clear()
         tells_differences = mode.end(tally)
     return DIFFERED if tally.wrong and tells_differences else AGREED

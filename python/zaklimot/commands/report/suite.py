@@ -189,7 +189,7 @@ def _run_case(
         return Result(case, case.rule(), SKIPPED, f"the command of --bytes has no {UNTIL}")
     if words.machine and not case.has_answers_of_machine():
         return Result(case, case.rule(), SKIPPED, NO_ANSWERS)
-    result = Result(case, case.rule(), comparison=Comparison(words.refusals, words.machine))
+    result = Result(case, case.rule(), comparison=Comparison(words.refusals, words.machine, True))
     limits = Limits(words.timeout, words.output * MEBIBYTE)
     with tempfile.TemporaryDirectory(prefix="zaklimot-") as name:
         script, report, messages = (

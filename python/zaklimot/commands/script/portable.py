@@ -12,7 +12,7 @@ import tempfile
 import time
 from contextlib import contextmanager, suppress
 from pathlib import Path
-from typing import BinaryIO, Iterator, NamedTuple, Union
+from typing import BinaryIO, Iterable, Iterator, NamedTuple, Optional, Sequence, Union
 
 from zaklimot.commands import TOP
 from zaklimot.commands.core.processes import Done, Word, captured
@@ -29,7 +29,7 @@ SOURCES = tuple(
     TOP / place for place in ("portable/vga.c", "portable/zaklimot.c", "include/zaklimot.h")
 )
 FLAGS = ("-std=c99", "-O2")
-# Where $CC names no compiler, the first of these that is in the path.
+# Where $CC names no compiler, the first of these in the path that can compile.
 COMPILERS = ("cc", "gcc", "clang", "tcc")
 # The names of what is compiled, in a folder that its digest names; and the names beside that: of
 # folders in which something is being made, and of the lock.
@@ -103,16 +103,17 @@ def portable_library() -> str:
 
 
 def _compiled(product: Product) -> str:
-    compiler = _compiler()
     folder = cache_folder()
-    path = folder / _digest(compiler, product) / product.name
-    if not os.access(path, os.X_OK):
+    places = [
+        (compiler, folder / _digest(compiler, product) / product.name) for compiler in _compilers()
+    ]
+    path = _made_of(places)
+    if path is None:
         try:
             folder.mkdir(parents=True, exist_ok=True)
             with _alone(folder):
                 # Another run may have compiled it meanwhile.
-                if not os.access(path, os.X_OK):
-                    _compile(compiler, path, product)
+                path = _made_of(places) or _compile_by_any(places, product)
         except OSError as error:
             raise Trouble(
                 f"{error.strerror or error}; {UNKEPT}", error.filename or str(folder)
@@ -121,17 +122,47 @@ def _compiled(product: Product) -> str:
     return str(path)
 
 
-def _compiler() -> list[str]:
+# Compilers, and where what each of them makes is kept.
+Places = Sequence[tuple[list[str], Path]]
+
+
+def _made_of(places: Places) -> Optional[Path]:
+    """What one of the compilers has made already; None if none has."""
+    return next((path for _, path in places if os.access(path, os.X_OK)), None)
+
+
+def _compile_by_any(places: Places, product: Product) -> Path:
+    """Compiles by the first compiler that can. If none can, a Trouble tells why the first can't."""
+    first: Optional[Trouble] = None
+    for compiler, path in places:
+        try:
+            _compile(compiler, path, product)
+            return path
+        except Trouble as trouble:
+            first = first or trouble
+    raise first or Trouble(NO_COMPILER)
+
+
+def _compilers() -> list[list[str]]:
+    """The compiler that CC names, or those that are in the path, each under one name."""
     try:
         words = shlex.split(os.environ.get("CC", ""))
     except ValueError as error:
         raise Trouble(f"CC names no compiler: {error}") from error
     if words and shutil.which(words[0]) is None:
         raise Trouble(f"CC names it as the C compiler, and it is not in the path; {PAGE}", words[0])
-    found = words or [name for name in COMPILERS if shutil.which(name)][:1]
-    if not found:
+    found = {os.path.realpath(path): name for name, path in _in_path(reversed(COMPILERS))}
+    if not (words or found):
         raise Trouble(NO_COMPILER)
-    return found
+    return [words] if words else [[name] for name in COMPILERS if name in found.values()]
+
+
+def _in_path(names: Iterable[str]) -> Iterator[tuple[str, str]]:
+    """The programs of these names that are in the path, with where they are."""
+    for name in names:
+        path = shutil.which(name)
+        if path is not None:
+            yield name, path
 
 
 def cache_folder() -> Path:

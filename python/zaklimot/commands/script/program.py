@@ -96,7 +96,9 @@ def found_program(named: Optional[str] = None, instead: str = NAME_ONE) -> str:
 
 def _words(script: str, fonts: str, until: Optional[int], is_bytes: bool) -> list[str]:
     stop = [] if until is None else ["--until", str(until)]
-    return ["run" if is_bytes else "go", script, "--fonts", fonts, *stop]
+    # A name may begin as an option does.
+    path = os.path.join(os.curdir, script) if script.startswith("-") and script != "-" else script
+    return ["run" if is_bytes else "go", path, "--fonts", fonts, *stop]
 
 
 @dataclass

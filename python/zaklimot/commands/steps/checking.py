@@ -186,7 +186,8 @@ def check(words: argparse.Namespace, progress: Progress) -> int:
     total = agree + differ + sum(one.skipped for one in held)
     if sum(bool(one.differ) for one in held) > 1:
         tell("of all files\n" + "".join(f"  {one.told()}\n" for one in worst(held)))
-    tell(f"{counted(total, 'element')}: {agree} agree, {differ} differ\n")
+    skipped = f", {total - agree - differ} skipped" if total > agree + differ else ""
+    tell(f"{counted(total, 'element')}: {agree} agree, {differ} differ{skipped}\n")
     return DIFFERED if differ or not agree else AGREED
 
 

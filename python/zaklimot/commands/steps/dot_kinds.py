@@ -5,7 +5,7 @@ from functools import partial
 from typing import Iterator
 
 from zaklimot.format import Step
-from zaklimot.commands.explain.banks import DAC_DATA, DAC_WRITE
+from zaklimot.commands.explain.ports import DAC_DATA, DAC_WRITE
 from zaklimot.commands.explain.raster import (
     BYTE_MODE,
     COUNTER,

@@ -4,7 +4,7 @@ from functools import partial
 from typing import Any, Callable, NamedTuple, Optional
 
 from zaklimot.format import MOST_ADVANCE
-from zaklimot.commands.explain.banks import RETRACE_END
+from zaklimot.commands.explain.ports import RETRACE_END
 from zaklimot.commands.explain.raster import (
     BYTE_MODE,
     DOUBLE_WORD,

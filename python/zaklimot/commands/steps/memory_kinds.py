@@ -4,7 +4,7 @@ spread addresses over planes; and words."""
 from functools import partial
 
 from zaklimot.format import Step
-from zaklimot.commands.explain.banks import ENABLE_MEMORY, WINDOWS
+from zaklimot.commands.explain.ports import ENABLE_MEMORY, WINDOWS
 
 from .adapter import SteppedCard
 from .chance import Chance

@@ -3,8 +3,6 @@ include/zaklimot.h."""
 
 from typing import Any
 
-from zaklimot.commands.explain.banks import Banks
-
 # A state by its parts, and an element of a file: both are what JSON gives.
 Parts = dict[str, Any]
 Element = dict[str, Any]
@@ -23,12 +21,11 @@ NUMBERS = {
 }
 # The parts that are a list of bytes, with the bits that each may have: registers, the latches, and
 # the red and the green that wait for blue.
-_BANKS = Banks()
 LISTS = {
-    "seq": _BANKS.seq.kept,
-    "gfx": _BANKS.gfx.kept,
-    "crtc": _BANKS.crtc.kept,
-    "attr": _BANKS.attr.kept,
+    "seq": bytes.fromhex("033D0F3F0E"),
+    "gfx": bytes.fromhex("0F0F0F1F037B0F0FFF"),
+    "crtc": b"\xff" * 8 + bytes.fromhex("7FFF3F7F") + b"\xff" * 8 + bytes.fromhex("7FFFFFEFFF"),
+    "attr": b"\x3f" * 16 + bytes.fromhex("EFFF3F0F0F"),
     "latches": b"\xff" * 4,
     "dac_waiting": b"\x3f" * 2,
 }

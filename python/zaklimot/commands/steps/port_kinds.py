@@ -4,7 +4,7 @@ ports, words, and input status 1."""
 from functools import partial
 
 from zaklimot.format import Step
-from zaklimot.commands.explain.banks import (
+from zaklimot.commands.explain.ports import (
     ATTRIBUTE,
     ATTRIBUTE_READ,
     COLOUR,

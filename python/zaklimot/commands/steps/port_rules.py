@@ -2,7 +2,7 @@
 
 from functools import partial
 
-from zaklimot.commands.explain.banks import (
+from zaklimot.commands.explain.ports import (
     COLOUR,
     GRAPHICS,
     MONOCHROME,

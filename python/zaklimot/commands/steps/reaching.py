@@ -4,7 +4,7 @@ tells it."""
 from typing import Iterable, Iterator, Sequence
 
 from zaklimot.format import MOST_ADVANCE, Step
-from zaklimot.commands.explain.banks import (
+from zaklimot.commands.explain.ports import (
     ATTRIBUTE,
     COLOUR,
     DAC_DATA,

@@ -4,7 +4,7 @@ adapters that show their state in no other way."""
 from typing import Any, Iterator, NamedTuple, Optional, Sequence
 
 from zaklimot.format import Step, printed
-from zaklimot.commands.explain.banks import (
+from zaklimot.commands.explain.ports import (
     ATTRIBUTE,
     ATTRIBUTE_READ,
     COLOUR,

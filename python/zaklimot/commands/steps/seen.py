@@ -4,7 +4,7 @@ from __future__ import annotations
 
 from typing import Any, Callable, Mapping, NamedTuple
 
-from zaklimot.commands.explain.banks import COLOUR, IS_COLOUR, MONOCHROME, WINDOWS, MemoryWindow
+from zaklimot.commands.explain.ports import COLOUR, IS_COLOUR, MONOCHROME, WINDOWS, MemoryWindow
 
 from .parts import ANSWER, FINAL, INITIAL, ORDER, REACH, REFUSED, Element, Parts
 from .reading import step_of

@@ -5,7 +5,7 @@ from functools import partial
 from typing import Callable, Mapping, NamedTuple, Optional, Sequence
 
 from zaklimot.format import Step
-from zaklimot.commands.explain.banks import GRAPHICS, SEQUENCER, WINDOWS
+from zaklimot.commands.explain.ports import GRAPHICS, SEQUENCER, WINDOWS
 
 from .adapter import SteppedCard
 from .chance import Chance

@@ -3,9 +3,9 @@ is then."""
 
 from typing import Iterable, Iterator, Optional
 
-from zaklimot.commands.explain.clocks import Registers, Speed
-from zaklimot.commands.explain.raster import retrace_start
+from zaklimot.commands.script.speed import Speed
 
+from .clock import Clock
 from .step import FRAME, WRITES, TraceStep, advances
 
 # The bit of input status 1 that is set during vertical retrace.
@@ -24,7 +24,7 @@ class Beamed:
 
     def __init__(self, longest: float) -> None:
         self.longest = longest
-        self._registers = Registers()
+        self._clock = Clock()
         # How fast the beam is; how many dots have passed of the frame under way, and how many of
         # these the steps so far have let pass.
         self._speed: Optional[Speed] = None
@@ -48,20 +48,21 @@ class Beamed:
                 yield from self._up_to_now() if is_written else ()
                 yield step
                 self._is_changed |= is_written
-                self._registers.take(step.step)
+                self._clock.take(step)
             self._poll = step if is_poll else None
 
     def _passed(self, step: TraceStep, now: int) -> Iterator[TraceStep]:
         """The frames that have ended until now."""
-        speed = self._registers.speed()
+        speed = self._clock.speed()
         if speed != self._speed:
             # With the frame's end it is known where the beam is in the next one.
             if self._speed is not None:
                 yield TraceStep(FRAME)
-            self._speed = speed
             self._place = 0.0
             self._told = 0
             self._is_changed = False
+        # The retrace may begin elsewhere, too.
+        self._speed = speed
         passed = 0 if self._last is None else max(0, now - self._last) / 1e6
         self._last = now
         if speed is None:
@@ -100,9 +101,9 @@ class Beamed:
             return
         if not (step.value & RETRACE and not before.value & RETRACE):
             return
-        shape = self._registers.banks.shape
-        line = retrace_start(self._registers.banks.crtc.registers)
-        begin = min(line, shape.lines - 1) * shape.characters * shape.dots
+        begin = None if self._speed is None else self._speed.retrace
+        if begin is None:
+            return
         off = (begin - self._place + dots / 2) % dots - dots / 2
         if self._place + off < self._told and -off > dots / MOST_JITTER:
             off += dots

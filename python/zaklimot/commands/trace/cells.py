@@ -1,60 +1,32 @@
 """The text that an adapter shows: its rows of characters and attributes, in a code page, and with
-their colours."""
+their colours. The card is asked where a cell is fetched, and what becomes of its dots."""
+
+from __future__ import annotations
 
 import codecs
-from functools import lru_cache
+from dataclasses import dataclass, replace
 from html import escape
 from itertools import groupby
-from typing import Iterator, NamedTuple, Sequence
+from typing import Iterator, NamedTuple, Optional, Sequence
 
+import zaklimot
 from zaklimot.commands.core.trouble import Trouble
-from zaklimot.commands.explain.raster import (
-    COUNTER,
-    OFFSET,
-    SHOWN_CHARACTERS,
-    fetch_address,
-    first_counter,
-    is_doubled,
-    is_graphics,
-    last_line,
-    last_scan,
-    line_compare,
-    preset_scan,
-    underline_scan,
-)
 from zaklimot.commands.images.png import WIDENED
 
 from .asked import USUAL_PAGE
-from .state import COMPONENTS, State
+from .following import Follower
 
-# Registers of the attribute controller, and bits of its mode control.
-CONTROL = 0x10
-OVERSCAN = 0x11
-PLANE_ENABLE = 0x12
-COLOUR_SELECT = 0x14
-IS_MONOCHROME = 0x02
-BLINKS = 0x08
-SELECTS_TWO = 0x80
-SOURCE = 0x20
-SCREEN_OFF = 0x20
-# The CRT controller's registers of the cursor.
+# The CRT controller's registers of the cursor, which move no cell.
 CURSOR = (0x0A, 0x0B, 0x0E, 0x0F)
+# Frames that differ in whether a character is there that blinks, and the dots of a glyph's row.
+PHASES = (0, 16)
+GLYPH_DOTS = 8
 # What a VGA's own glyphs show where a code page has controls.
 GLYPHS_OF_CONTROLS = " ☺☻♥♦♣♠•◘○◙♂♀♪♫☼►◄↕‼¶§▬↨↑↓→←∟↔▲▼"
 DELETE = 0x7F
 GLYPH_OF_DELETE = "⌂"
 UNKNOWN = "\ufffd"
 Colour = tuple[int, int, int]
-
-
-class Look(NamedTuple):
-    """How a character looks: its colour and that of its background, eight bits a component; whether
-    it blinks, and is underlined."""
-
-    front: Colour
-    back: Colour
-    blinks: bool = False
-    is_underlined: bool = False
 
 
 class TextCell(NamedTuple):
@@ -64,69 +36,135 @@ class TextCell(NamedTuple):
     attribute: int
 
 
-def lines_shown(state: State) -> int:
-    """How many lines of a frame are displayed."""
-    return min(last_line(state.crtc.registers) + 1, state.shape.lines)
+@dataclass(frozen=True)
+class Look:
+    """How characters of an attribute look: their colour and that of the background, eight bits a
+    component, each of which no dot may have; whether they blink, and are underlined."""
+
+    front: Optional[Colour] = None
+    back: Optional[Colour] = None
+    blinks: bool = False
+    is_underlined: bool = False
+
+    @property
+    def colours(self) -> tuple[Colour, Colour]:
+        """Both colours. One that no dot has is as good as the other."""
+        front, back = self.front or self.back, self.back or self.front
+        return front or (0, 0, 0), back or (0, 0, 0)
 
 
-def _bases(crtc: tuple[int, ...], lines: int) -> Sequence[int]:
-    """The counters of the first characters of the rows that are shown: see docs/RASTER.md."""
-    compare = line_compare(crtc)
-    are_doubled = is_doubled(crtc)
-    last = last_scan(crtc)
-    base = first_counter(crtc)
-    scan = preset_scan(crtc)
-    half = 0
-    bases = [base]
-    for line in range(lines - 1):
-        if line == compare:
-            base = scan = half = 0
-            bases.append(base)
-        elif are_doubled and not half:
-            half = 1
-        elif scan < last:
-            half = 0
-            scan += 1
-        else:
-            half = scan = 0
-            base = base + 2 * crtc[OFFSET] & COUNTER
-            bases.append(base)
-    return bases
+@dataclass(frozen=True)
+class ShownRow:
+    """A row of text: where its cells are fetched, and the beam at each of its lines."""
+
+    offsets: Sequence[int]
+    beams: Sequence[zaklimot.Beam]
 
 
-@lru_cache(1 << 8)
-def _offsets(crtc: tuple[int, ...], columns: int, lines: int) -> Sequence[Sequence[int]]:
-    """The offsets in the planes of the cells of each row that is shown."""
-    return [
-        [fetch_address(crtc, base + at & COUNTER) for at in range(columns)]
-        for base in _bases(crtc, lines)
-    ]
+class TextScreen:
+    """The text that a card shows, which goes on: where cells are fetched is found out once for each
+    state of the registers that decide it."""
+
+    def __init__(self, follower: Follower, name: str) -> None:
+        self.follower = follower
+        self._name = name
+        self._decided: object = None
+        self._rows: Sequence[ShownRow] = ()
+
+    @property
+    def is_text(self) -> bool:
+        """Whether it is text that the card shows, and not graphics."""
+        return self.follower.card.explain_dot().is_text
+
+    def rows(self) -> Sequence[ShownRow]:
+        """The rows that are shown; a Trouble where graphics are."""
+        if not self.is_text:
+            told = "it shows graphics then, and no text: `zaklimot trace pictures` shows them"
+            raise Trouble(told, self._name)
+        registers = self.follower.card.registers()
+        crtc = bytes(0 if at in CURSOR else one for at, one in enumerate(registers.crtc))
+        decided = crtc, registers.seq, registers.gfx
+        if decided != self._decided:
+            with self.follower.copy() as card:
+                self._rows = list(_rows_of(card))
+            self._decided = decided
+        return self._rows
+
+    def cells(self) -> Sequence[Sequence[TextCell]]:
+        """The cells of each row."""
+        rows = self.rows()
+        characters, attributes = (self.follower.card.plane(plane) for plane in (0, 1))
+        return [[TextCell(characters[at], attributes[at]) for at in row.offsets] for row in rows]
+
+    def text(self, letters: str) -> Sequence[str]:
+        """The rows as text, each character of which is a cell."""
+        rows = self.rows()
+        characters = self.follower.card.plane(0)
+        return ["".join([letters[characters[at]] for at in row.offsets]) for row in rows]
+
+    def looks(self) -> dict[int, Look]:
+        """How the attributes look that are shown."""
+        looks: dict[int, Look] = {}
+        seen: set[TextCell] = set()
+        for row, cells in zip(self.rows(), self.cells()):
+            for column, cell in enumerate(cells):
+                look = looks.get(cell.attribute, Look())
+                if cell in seen or look.front is not None and look.back is not None:
+                    continue
+                seen.add(cell)
+                looks[cell.attribute] = _look_at(self.follower.card, row, column, look)
+        return looks
 
 
-def _places(state: State, name: str) -> Sequence[Sequence[int]]:
-    """The same of a state; a Trouble where graphics are shown."""
-    if is_graphics(state.gfx.registers):
-        raise Trouble(
-            "it shows graphics then, and no text: `zaklimot trace pictures` shows them", name
-        )
-    crtc = state.crtc.registers
-    columns = min(crtc[SHOWN_CHARACTERS] + 1, state.shape.characters)
-    # Where the cursor is makes no difference, and it moves.
-    shaping = tuple(0 if at in CURSOR else value for at, value in enumerate(crtc))
-    return _offsets(shaping, columns, lines_shown(state))
+def _rows_of(card: zaklimot.Card) -> Iterator[ShownRow]:
+    """The rows of a frame, line by line. The card goes through the frame."""
+    card.skip_frame()
+    timing = card.clock()
+    card.advance(timing.line_dots - 1)
+    columns = card.beam().character + 1
+    card.skip_frame()
+    # Only at the second dot does the beam have the counters of its line.
+    card.advance(1)
+    row: list[zaklimot.Beam] = []
+    for _ in range(timing.lines):
+        beam = card.beam()
+        if not card.explain_dot(beam).is_display:
+            break
+        if row and not (beam.scan or beam.half):
+            yield _shown(card, row, columns)
+            row = []
+        row.append(beam)
+        card.advance(timing.line_dots)
+    if row:
+        yield _shown(card, row, columns)
 
 
-def cells_of(state: State, name: str) -> Sequence[Sequence[TextCell]]:
-    """The rows of cells that are shown; a Trouble where graphics are."""
-    words = state.memory.words
-    rows = _places(state, name)
-    return [[TextCell(words[at] & 0xFF, words[at] >> 8 & 0xFF) for at in row] for row in rows]
+def _shown(card: zaklimot.Card, beams: Sequence[zaklimot.Beam], columns: int) -> ShownRow:
+    """The row whose lines have these beams, of so many columns at most."""
+    offsets = []
+    for column in range(columns):
+        source = card.explain_dot(beams[0]._replace(character=column, dot=0))
+        if not source.is_display:
+            break
+        offsets.append(source.address)
+    return ShownRow(offsets, beams)
 
 
-def text_of(state: State, letters: str, name: str) -> Sequence[str]:
-    """The rows as text, each character of which is a cell; a Trouble where graphics are shown."""
-    words = state.memory.words
-    return ["".join([letters[words[at] & 0xFF] for at in row]) for row in _places(state, name)]
+def _look_at(card: zaklimot.Card, row: ShownRow, column: int, look: Look) -> Look:
+    """What the dots of a cell add to how its attribute looks."""
+    for beam in row.beams:
+        at = beam._replace(character=column, dot=0)
+        phases = [card.explain_dot(at._replace(frame=frame)) for frame in PHASES]
+        blinks = any(one.is_blinked_away for one in phases)
+        is_there = next((n for n, one in zip(PHASES, phases) if not one.is_blinked_away), 0)
+        is_underlined = look.is_underlined or any(one.is_underlined for one in phases)
+        look = replace(look, blinks=look.blinks or blinks, is_underlined=is_underlined)
+        for dot in range(GLYPH_DOTS):
+            source = card.explain_dot(at._replace(frame=is_there, dot=dot))
+            red, green, blue = (WIDENED[part] for part in source.colour)
+            side = "front" if source.is_foreground else "back"
+            look = replace(look, **{side: (red, green, blue)})
+    return look
 
 
 def code_page(name: str) -> str:
@@ -145,56 +183,28 @@ def code_page(name: str) -> str:
 USUAL_LETTERS = bytes(range(0x20, DELETE)).decode("ascii")
 
 
-def entry_of(state: State, bits: int) -> int:
-    """The entry of the DAC that four bits of a dot pick, as text and 16 colours have them."""
-    attr = state.attr.registers
-    if not state.attr.index & SOURCE:
-        return attr[OVERSCAN] & state.dac.mask
-    number = attr[bits & attr[PLANE_ENABLE] & 0x0F]
-    select = attr[COLOUR_SELECT]
-    if attr[CONTROL] & SELECTS_TWO:
-        number = number & 0x0F | (select & 0x03) << 4
-    return (number & 0x3F | (select & 0x0C) << 4) & state.dac.mask
-
-
-def widened(state: State, entry: int) -> Colour:
-    """The colour of an entry of the DAC, eight bits a component."""
-    red, green, blue = state.dac.components[COMPONENTS * entry : COMPONENTS * (entry + 1)]
-    return WIDENED[red], WIDENED[green], WIDENED[blue]
-
-
-def look_of(state: State, attribute: int) -> Look:
-    """How characters of an attribute look. One that blinks has the look that is seen half of the
-    time."""
-    if state.seq.registers[1] & SCREEN_OFF:
-        return Look((0, 0, 0), (0, 0, 0))
-    control = state.attr.registers[CONTROL]
-    can_blink = bool(control & BLINKS)
-    front = widened(state, entry_of(state, attribute & 0x0F))
-    back = widened(state, entry_of(state, attribute >> 4 & (0x07 if can_blink else 0x0F)))
-    is_shown = underline_scan(state.crtc.registers) <= last_scan(state.crtc.registers)
-    is_underlined = bool(control & IS_MONOCHROME and attribute & 0x77 == 1 and is_shown)
-    return Look(front, back, can_blink and attribute >= 0x80, is_underlined)
-
-
-def plain_lines(state: State, letters: str, name: str) -> Iterator[str]:
+def plain_lines(screen: TextScreen, letters: str, _: str) -> Iterator[str]:
     """The rows as text, without the blanks at their ends."""
-    yield from (row.rstrip() for row in text_of(state, letters, name))
+    yield from (row.rstrip() for row in screen.text(letters))
 
 
-def _runs(state: State, row: Sequence[TextCell], letters: str) -> Iterator[tuple[Look, str]]:
-    """The parts of a row that have one look, each with its text."""
-    looks = {attribute: look_of(state, attribute) for attribute in {one.attribute for one in row}}
-    for look, cells in groupby(row, lambda cell: looks[cell.attribute]):
-        yield look, "".join(letters[cell.character] for cell in cells)
+Runs = Iterator[tuple[Look, str]]
 
 
-def ansi_lines(state: State, letters: str, name: str) -> Iterator[str]:
+def _rows_of_runs(screen: TextScreen, letters: str) -> Iterator[Runs]:
+    """The rows by their parts that have one look, each with its text."""
+    looks = screen.looks()
+    for row in screen.cells():
+        runs = groupby(row, lambda cell: looks[cell.attribute])
+        yield ((look, "".join(letters[cell.character] for cell in cells)) for look, cells in runs)
+
+
+def ansi_lines(screen: TextScreen, letters: str, _: str) -> Iterator[str]:
     """The rows with their colours, for a terminal of 24-bit colours."""
-    for row in cells_of(state, name):
+    for runs in _rows_of_runs(screen, letters):
         parts = []
-        for look, text in _runs(state, row, letters):
-            front, back = (";".join(map(str, colour)) for colour in (look.front, look.back))
+        for look, text in runs:
+            front, back = (";".join(map(str, colour)) for colour in look.colours)
             more = ";5" * look.blinks + ";4" * look.is_underlined
             parts.append(f"\x1b[0;38;2;{front};48;2;{back}{more}m{text}")
         yield "".join(parts) + "\x1b[0m"
@@ -219,18 +229,18 @@ pre {{ display: inline-block; line-height: 1.2; font-family: monospace; }}
 HTML_END = "</pre>\n</body>\n</html>\n"
 
 
-def html_lines(state: State, letters: str, name: str) -> Iterator[str]:
+def html_lines(screen: TextScreen, letters: str, title: str) -> Iterator[str]:
     """The rows with their colours, as a page of its own."""
-    rows = cells_of(state, name)
-    yield HTML_HEAD.format(title=escape(name)).rstrip("\n")
-    for row in rows:
-        yield "".join(_span(look, text) for look, text in _runs(state, row, letters))
+    rows = list(_rows_of_runs(screen, letters))
+    yield HTML_HEAD.format(title=escape(title)).rstrip("\n")
+    for runs in rows:
+        yield "".join(_span(look, text) for look, text in runs)
     yield HTML_END.rstrip("\n")
 
 
 def _span(look: Look, text: str) -> str:
     named = (("blinks", look.blinks), ("underlined", look.is_underlined))
     classes = " ".join(name for name, has in named if has)
-    front, back = ("#{:02x}{:02x}{:02x}".format(*colour) for colour in (look.front, look.back))
+    front, back = ("#{:02x}{:02x}{:02x}".format(*colour) for colour in look.colours)
     of_class = f' class="{classes}"' if classes else ""
     return f'<span{of_class} style="color:{front};background:{back}">{escape(text)}</span>'

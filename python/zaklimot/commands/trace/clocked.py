@@ -2,8 +2,7 @@
 
 from typing import Iterable, Iterator, Optional
 
-from zaklimot.commands.explain.clocks import Registers
-
+from .clock import Clock
 from .step import FRAME, WRITES, TraceStep, advances
 
 
@@ -16,7 +15,7 @@ class Clocked:
 
     def __init__(self, longest: float) -> None:
         self.longest = longest
-        self._registers = Registers()
+        self._clock = Clock()
         # When the last frame that was drawn ended, and when the one ends that is under way.
         self._drawn: Optional[float] = None
         self._ends: Optional[float] = None
@@ -31,12 +30,12 @@ class Clocked:
             if step.time is not None:
                 yield from self._frames(step.time / 1_000_000)
             self._is_changed |= step.opcode in WRITES
-            self._registers.take(step.step)
+            self._clock.take(step)
             yield step
         yield from self._passed()
 
     def _frames(self, now: float) -> Iterator[TraceStep]:
-        frame = self._registers.frame()
+        frame = self._clock.frame()
         if self._ends is None:
             self._ends = now + frame
         if now < self._ends:
@@ -53,6 +52,6 @@ class Clocked:
         if seconds > self.longest:
             self.shortened += 1
             self.left_out += seconds - self.longest
-        speed = self._registers.speed()
-        frames = round(min(seconds, self.longest) / self._registers.frame()) - 1
+        speed = self._clock.speed()
+        frames = round(min(seconds, self.longest) / self._clock.frame()) - 1
         yield from advances(0 if speed is None else speed.dots * max(frames, 0))

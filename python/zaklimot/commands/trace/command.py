@@ -2,6 +2,8 @@
 
 import argparse
 import sys
+import zlib
+from collections import deque
 from pathlib import Path
 from tempfile import TemporaryDirectory
 from typing import ContextManager, Iterator, Optional, Sequence, TextIO, Union
@@ -14,23 +16,27 @@ from zaklimot.commands.core.streams import counted, reading, write_name, writing
 from zaklimot.commands.core.trouble import AGREED, DIFFERED, Trouble
 from zaklimot.commands.images.png import Animation, ImageSize, Shape, save_png
 from zaklimot.commands.report.report import Report
-from zaklimot.commands.script.program import tried_program
+from zaklimot.commands.script.own import own_program
+from zaklimot.commands.script.program import BuiltProgram, tried_program
 
 from . import inpage
 from .asked import BEAM, CLOCK, KEEP, Deed
+from .following import Follower
 from .converting import Listing, check, convert
 from .monitor import QEMU
 from .judging import Judging, warn
 from .note import NOTE, Note, note_of
 from .seeing import save_picture
 from .recording import PRECISE, QemuMachine, Say, chain_4, check_keys, record
-from .replaying import shown
+from .replaying import Program, shown
 from .video import check_video, write_video
 from .trace import Trace, opened
 
 
 # Pictures that move have so many bytes at most.
 MOST_PACKED = 1 << 29
+# How hard they are packed that wait.
+FAST = 1
 # What messages call an output that has no name.
 OUTPUT = "standard output"
 
@@ -77,58 +83,67 @@ def make_pictures(words: argparse.Namespace, progress: Progress) -> None:
         return
     if words.video is not None:
         check_video(words.video)
-    program = tried_program(words.vga, words.fonts)
-    shape = Shape(words.scale, words.aspect)
     found = _opened(words)
     if words.folder is not None:
         files().make_folder(words.folder)
-    with TemporaryDirectory(prefix="zaklimot-") as name:
-        script = Path(name) / "script"
-        with found as trace, writing(str(script)) as stream:
-            listing = Listing(
-                trace,
-                frames=BEAM if words.beam else CLOCK,
-                most=words.to,
-                first=words.from_,
-                longest=words.longest,
-            )
-            convert(listing, stream)
-        warn(listing, name_of(words.trace))
-        largest = _write_stills(words.folder, shape, shown(program, words.fonts, script, 0))
-        if words.apng is not None or words.video is not None:
-            pictures = shown(program, words.fonts, script, words.longest)
-            animation = _moving(Animation(shape, largest), pictures)
-            _write_moving(words, animation)
+    with found as trace:
+        listing = Listing(
+            trace,
+            frames=BEAM if words.beam else CLOCK,
+            most=words.to,
+            first=words.from_,
+            longest=words.longest,
+            fonts=words.fonts,
+        )
+        pictures = shown(listing.steps(), words.fonts, progress)
+        stills = _stills(words, pictures)
+        animation = _moving(words, stills) if words.apng or words.video else None
+        # Else each is written as it comes.
+        deque(stills, 0)
+    warn(listing, name_of(words.trace))
+    if animation is not None:
+        _write_moving(words, animation)
 
 
-def _write_stills(
-    folder: Optional[str], shape: Shape, pictures: Iterator[tuple[Picture, float]]
-) -> ImageSize:
-    """Writes each picture into a folder, if there is one; the largest width and height."""
+Shown = Iterator[tuple[Picture, float]]
+
+
+def _stills(words: argparse.Namespace, pictures: Shown) -> Shown:
+    """The same pictures. Each is written into a folder, if there is one."""
     begin = 0.0
-    width = 0
-    height = 0
     for picture, lasts in pictures:
-        if folder is not None:
-            path = Path(folder) / f"{begin:09.3f}.png"
-            save_png(str(path), picture, shape)
+        if words.folder is not None:
+            path = Path(words.folder) / f"{begin:09.3f}.png"
+            save_png(str(path), picture, Shape(words.scale, words.aspect))
             write_name(path)
         begin = begin + lasts
-        width = max(width, picture.width)
-        height = max(height, picture.height)
-    return ImageSize(width, height)
+        yield picture, lasts
 
 
-def _moving(animation: Animation, pictures: Iterator[tuple[Picture, float]]) -> Animation:
-    """Pictures that move, each stretched to the largest size of them, as a monitor shows them."""
+def _moving(words: argparse.Namespace, pictures: Shown) -> Animation:
+    """Pictures that move, each stretched to the largest size of them, as a monitor shows them. The
+    last is seen for the longest time without a write."""
+    packed: list[tuple[bytes, float]] = []
+    width = height = size = 0
+    for picture, lasts in pictures:
+        packed.append((zlib.compress(picture.ppm, FAST), lasts))
+        size += len(packed[-1][0])
+        width, height = max(width, picture.width), max(height, picture.height)
+        _check_size(size)
+    animation = Animation(Shape(words.scale, words.aspect), ImageSize(width, height))
     size = 0
-    for number, (picture, lasts) in enumerate(pictures, 1):
-        animation.add(picture, lasts, f"picture {number}")
+    for number, (ppm, lasts) in enumerate(packed, 1):
+        more = words.longest if number == len(packed) else 0
+        animation.add(Picture.of_ppm(zlib.decompress(ppm)), lasts + more, f"picture {number}")
         size += len(animation.frames[-1].rows)
-        if size > MOST_PACKED:
-            told = f"more than {MOST_PACKED:,} bytes: --from and --to take a part of the trace"
-            raise Trouble(f"the pictures take {told}")
+        _check_size(size)
     return animation
+
+
+def _check_size(size: int) -> None:
+    if size > MOST_PACKED:
+        told = f"more than {MOST_PACKED:,} bytes: --from and --to take a part of the trace"
+        raise Trouble(f"the pictures take {told}")
 
 
 def _write_moving(words: argparse.Namespace, animation: Animation) -> None:
@@ -154,12 +169,17 @@ def record_software(words: argparse.Namespace, progress: Progress) -> int:
     if folder.exists() and any(folder.iterdir()):
         again = ", or --again to judge it once more" if (folder / NOTE).exists() else ""
         raise Trouble(f"it has files: name a new folder{again}", words.folder)
+    recorder = _recorder(words)
+    recorder.check()
     judging = _judging(words, progress)
-    return judging.judge(_recorded(words, folder, progress), folder)
+    return judging.judge(_recorded(recorder, folder, progress), folder)
 
 
 def _judging(words: argparse.Namespace, progress: Progress) -> Judging:
-    return Judging(tried_program(words.vga, words.fonts), words.fonts, progress)
+    # What would be missing at the end is told at the beginning.
+    Follower(words.fonts)
+    program: Program = own_program(words.vga) or BuiltProgram(tried_program(words.vga, words.fonts))
+    return Judging(program, words.fonts, progress)
 
 
 def _judged_again(words: argparse.Namespace, folder: Path, progress: Progress) -> int:
@@ -209,7 +229,13 @@ class _InPage:
         )
 
     def check(self) -> None:
-        """Ends the work, before it begins, where the machine lacks a key."""
+        """Ends the work, before it begins, where a file or node is lacking, or the machine lacks a
+        key."""
+        for name in (self._machine.file, self._machine.rom):
+            if name is not None:
+                with open(name, "rb"):
+                    pass
+        inpage.check_node()
         inpage.check_keys(self._deeds)
 
     def record(self, folder: Path, say: Say, progress: Progress) -> Note:
@@ -217,13 +243,17 @@ class _InPage:
         return inpage.record(self._machine, folder, say, progress)
 
 
-def _recorded(words: argparse.Namespace, folder: Path, progress: Progress) -> Note:
-    """Records into a folder, which is gone again where nothing was; the note of the recording."""
+Recorder = Union[_OnQemu, _InPage]
+
+
+def _recorder(words: argparse.Namespace) -> Recorder:
     # A screen is taken at the end at least.
     deeds = words.deeds if words.deeds and not words.deeds[-1].keys else [*words.deeds, Deed()]
-    recorder: Union[_OnQemu, _InPage]
-    recorder = _OnQemu(words, deeds) if words.in_page is None else _InPage(words, deeds)
-    recorder.check()
+    return _OnQemu(words, deeds) if words.in_page is None else _InPage(words, deeds)
+
+
+def _recorded(recorder: Recorder, folder: Path, progress: Progress) -> Note:
+    """Records into a folder, which is gone again where nothing was; the note of the recording."""
 
     def say(text: str) -> None:
         progress.clear()

@@ -2,27 +2,37 @@
 cycles lie between them."""
 
 import argparse
-from contextlib import ExitStack
+from contextlib import ExitStack, suppress
 from dataclasses import dataclass, field
-from itertools import zip_longest
+from itertools import chain, zip_longest
 from typing import Iterator, NamedTuple, Optional, Sequence
 
-from zaklimot.format import MOST_ADVANCE, Picture
+import zaklimot
+from zaklimot.format import FONT_BYTES, Picture
 from zaklimot.commands.core.files import STANDARD
 from zaklimot.commands.core.progress import Progress
 from zaklimot.commands.core.trouble import AGREED, DIFFERED, Trouble
-from zaklimot.commands.explain.banks import ATTRIBUTE, DAC_DATA, DAC_READ, DAC_WRITE, MASK, MISC
-from zaklimot.commands.explain.clocks import Registers, bytes_written
+from zaklimot.commands.explain.ports import (
+    ATTRIBUTE,
+    COLOUR,
+    DAC_DATA,
+    DAC_READ,
+    DAC_WRITE,
+    GRAPHICS,
+    MASK,
+    MISC,
+    MONOCHROME,
+    SEQUENCER,
+)
 from zaklimot.commands.images.holding import told_dots
 from zaklimot.commands.images.png import Shape, save_png
 from zaklimot.commands.report.expecting import NAMES
-from zaklimot.commands.script.program import tried_program
+from zaklimot.commands.script.library import use_library
 
+from .following import Follower
 from .moments import SECOND, Passed
-from .state import FRAMES
-from .step import INT, PORTS, WRITES, TraceStep, advances, steps_of, without_polls
+from .step import INT, OUT, OUTW, PORTS, WRITES, TraceStep, steps_of, without_polls
 from .trace import opened
-from .walking import FRAME_STEP, Item, Question, Walk
 
 # What is called by another name than that of a register behind an index.
 PLAIN_PORTS = {
@@ -32,8 +42,9 @@ PLAIN_PORTS = {
     DAC_WRITE: "DAC index for writing",
     DAC_DATA: "DAC component",
 }
-# The registers behind indexes, by their names in dumps.
-BANKS = ("seq", "gfx", "crtc")
+# The ports of indexes, and what dumps call the registers behind each; the bits of an index.
+INDEXES = {SEQUENCER: "seq", GRAPHICS: "gfx", MONOCHROME: "crtc", COLOUR: "crtc"}
+INDEX = 0x1F
 
 
 @dataclass(frozen=True)
@@ -55,36 +66,47 @@ class Writes:
     none."""
 
     def __init__(self) -> None:
-        # It knows the ports after a mode set, too.
-        self._registers = Registers()
-        self._banks = self._registers.banks
+        use_library()
+        # It knows the indexes after a mode set, too. No glyph is shown.
+        self._card = zaklimot.Card(bytes(FONT_BYTES))
 
     def of(self, step: TraceStep, told: str) -> Iterator[Write]:
         """What a step writes at the time that is told."""
-        if step.opcode == INT and step.call is not None:
+        if step.call is not None:
             registers = " ".join(f"{value:04X}" for value in step.call.registers)
-            self._registers.take(step.step)
             handed = f"{registers} {step.call.block.hex().upper()}".rstrip()
             yield Write("interrupt 10", handed, told)
-        for port, value in bytes_written(step.step):
-            place = self._place(port)
-            self._banks.write(port, value)
-            if place:
-                yield Write(place, f"{value:02X}", told)
-        if step.is_status:
-            self._banks.read_status()
+            ax, bx, cx, dx = step.call.registers
+            with suppress(zaklimot.Refusal):
+                self._card.int10(ax, bx, cx, dx, step.call.block)
+        elif step.opcode in (OUT, OUTW):
+            for at in range(2 if step.opcode == OUTW else 1):
+                port, value = step.address + at, step.value >> 8 * at & 0xFF
+                place = self._place(port)
+                with suppress(zaklimot.Refusal):
+                    self._card.out(port, value)
+                if place:
+                    yield Write(place, f"{value:02X}", told)
+        elif step.is_status:
+            # The next write to the attribute controller is an index.
+            with suppress(zaklimot.Refusal):
+                self._card.inp(step.address)
 
     def _place(self, port: int) -> str:
-        banks = self._banks
+        """What a write to a port reaches now; nothing where it is an index."""
+        if port in PLAIN_PORTS:
+            return PLAIN_PORTS[port]
         if port == ATTRIBUTE:
-            return _named("attr", banks.attr.number) if banks.is_data else ""
-        if banks.bank(port) is not None:
-            return ""
-        bank = banks.bank(port - 1)
-        if bank is not None:
-            group = next(name for name in BANKS if getattr(banks, name) is bank)
-            return _named(group, bank.number)
-        return PLAIN_PORTS.get(port, f"port {port:03X}")
+            registers = self._card.registers()
+            is_data = registers.attr_is_data
+            return _named("attr", registers.attr_index & INDEX) if is_data else ""
+        for at in (port, port - 1):
+            if at in INDEXES:
+                # Of the CRT controller's two ports one alone is there.
+                with suppress(zaklimot.Refusal):
+                    index = self._card.inp(at)
+                    return "" if at == port else _named(INDEXES[at], index & INDEX)
+        return f"port {port:03X}"
 
 
 def _named(group: str, number: int) -> str:
@@ -137,40 +159,43 @@ class Recording:
             if step.opcode in PORTS or step.opcode == INT:
                 yield from writes.of(step, self.passed.told)
 
-    def items(self, stack: ExitStack) -> Iterator[Item[str]]:
-        """The steps, and a frame where nothing was written for a while, and at the end."""
-        registers = Registers()
+    def pictures(self, fonts: str, stack: ExitStack) -> Iterator[ShownPicture]:
+        """The pictures that stand for a while, where nothing was written, and that at the end; of
+        equal ones that follow one another the first."""
+        follower = Follower(fonts)
         last: Optional[int] = None
         told = ""
-        for step in self.steps(stack):
-            if step.opcode in WRITES:
-                is_still = last is not None and step.time is not None
-                if is_still and (step.time or 0) - (last or 0) >= self.still * SECOND:
-                    yield from _drawn(registers, told)
+        digest: Optional[str] = ""
+        for step in chain(self.steps(stack), [None]):
+            is_written = step is not None and step.opcode in WRITES
+            if step is None or is_written and self._is_still(last, step.time):
+                picture = _drawn(follower)
+                found = None if picture is None else picture.sum
+                if found != digest:
+                    yield ShownPicture(told, picture)
+                digest = found
+            if step is None:
+                return
+            if is_written:
                 last = step.time if step.time is not None else last
                 told = self.passed.told
-            registers.take(step.step)
-            yield step
-        yield from _drawn(registers, told)
+            follower.take(step)
 
-    def pictures(self, walk: Walk, stack: ExitStack) -> Iterator[ShownPicture]:
-        """The pictures that stand for a while; of equal ones that follow one another the first."""
-        last: Optional[str] = ""
-        for told, answer in walk.answers(self.items(stack)):
-            picture = answer.picture if isinstance(answer.picture, Picture) else None
-            digest = None if picture is None else picture.sum
-            if digest != last:
-                yield ShownPicture(told, picture)
-            last = digest
+    def _is_still(self, last: Optional[int], now: Optional[int]) -> bool:
+        """Whether nothing was written for a while until now."""
+        if last is None or now is None:
+            return False
+        return now - last >= self.still * SECOND
 
 
-def _drawn(registers: Registers, told: str) -> Iterator[Item[str]]:
-    """A frame, and as many behind it as it takes until the cursor and blinking text are as they
-    were."""
-    yield Question(FRAME_STEP, told)
-    speed = registers.speed()
-    dots = 0 if speed is None else (FRAMES - 1) * speed.dots
-    yield from advances(dots if dots <= MOST_ADVANCE else 0)
+def _drawn(follower: Follower) -> Optional[Picture]:
+    """The picture of the frame. As many frames pass behind it as it takes until the cursor and
+    blinking text are as they were."""
+    begun = follower.card.beam().frame
+    picture = follower.picture()
+    while follower.card.beam().frame != begun:
+        follower.card.skip_frame()
+    return picture
 
 
 def compare_recordings(words: argparse.Namespace, progress: Progress) -> int:
@@ -178,12 +203,11 @@ def compare_recordings(words: argparse.Namespace, progress: Progress) -> int:
     both = [Recording(path, words.still) for path in (words.one, words.other)]
     if STANDARD in (words.one, words.other):
         raise Trouble("each trace is read twice, which standard input can't be")
-    program = tried_program(words.vga, words.fonts)
     with ExitStack() as stack:
         are_alike = _compare_writes(both, stack)
     with ExitStack() as stack:
-        walk = Walk(program, words.fonts, progress)
-        differing = _compare_pictures([one.pictures(walk, stack) for one in both], both, progress)
+        shown = [one.pictures(words.fonts, stack) for one in both]
+        differing = _compare_pictures(shown, both, progress)
     if words.picture is not None and differing is not None:
         _save(words, differing)
     return AGREED if are_alike and differing is None else DIFFERED

@@ -10,6 +10,7 @@ from itertools import chain, islice
 from operator import attrgetter
 from typing import BinaryIO, Callable, Iterable, Iterator, NamedTuple, Optional, Sequence, Union
 
+import zaklimot
 from zaklimot import format
 from zaklimot.format import (
     FIRST_LINE,
@@ -24,21 +25,19 @@ from zaklimot.format.picture import Digest
 from zaklimot.format.report import REFUSAL, SKIPPED, VALUE
 from zaklimot.commands.core.streams import counted
 from zaklimot.commands.core.trouble import Trouble
-from zaklimot.commands.explain.banks import (
+from zaklimot.commands.explain.ports import (
     ATTRIBUTE_READ,
     COLOUR,
-    DAC_PORTS,
+    GRAPHICS,
     MONOCHROME,
-    STATUS,
-    Banks,
+    SEQUENCER,
 )
-from zaklimot.commands.explain.clocks import INDEX_PORTS, Registers, bytes_written
-from zaklimot.commands.explain.reasons import Reasons
 
 from .asked import BEAM, CLOCK, END, FLIP, SCREENS, Frames
 from .beamed import Beamed
+from .clock import Clock
 from .clocked import Clocked
-from .rebuilding import Follower
+from .following import Follower
 from .step import (
     ADVANCE,
     BEAM_BITS,
@@ -77,6 +76,9 @@ Code = Callable[[TraceStep], bytes]
 # Microseconds that are put together before they become a step: about a line.
 LEAST_PAUSE = 30
 CONTROLLERS = (COLOUR, MONOCHROME)
+# The ports of indexes, which are read without an effect, and the bits of an index.
+INDEX_PORTS = (SEQUENCER, GRAPHICS, COLOUR, MONOCHROME)
+INDEX = 0x1F
 # The CRT controller's registers of the start address, which a page flip writes.
 START_ADDRESS = (0x0C, 0x0D)
 # What gives the opcode of a step.
@@ -98,7 +100,7 @@ class Pauses:
     the trace tells them."""
 
     def __init__(self) -> None:
-        self._registers = Registers()
+        self._clock = Clock()
         self._last: Optional[int] = None
         self._owed = 0
         self.backwards = 0
@@ -107,8 +109,9 @@ class Pauses:
         """The steps, with the clock advanced before those to which time has passed."""
         for step in steps:
             dots = self._dots(step.time) if step.dots is None else self._exact(step)
-            yield from advances(dots)
-            self._registers.take(step.step)
+            if dots:
+                yield from advances(dots)
+            self._clock.take(step)
             yield step
 
     def _exact(self, step: TraceStep) -> int:
@@ -129,7 +132,7 @@ class Pauses:
             return 0
         owed = self._owed
         self._owed = 0
-        speed = self._registers.speed()
+        speed = self._clock.speed()
         return 0 if speed is None else min(int(owed * speed.clock / 1_000_000), speed.dots)
 
 
@@ -139,26 +142,29 @@ def with_flips(steps: Iterable[TraceStep]) -> Iterator[TraceStep]:
 
     There is one frame for the two halves of an address.
     """
-    index = 0
-    address = dict.fromkeys(START_ADDRESS, 0)
+    clock = Clock()
+    start = _start_address(clock)
     is_flipping = False
     for step in steps:
-        written = [
-            (port & 1, value)
-            for port, value in bytes_written(step.step)
-            if port & ~1 in CONTROLLERS
-        ]
-        last = dict(address)
-        for is_data, value in written:
-            if not is_data:
-                index = value
-            elif index in address:
-                address[index] = value
+        clock.take(step)
+        if step.opcode not in (OUT, OUTW) or step.address & ~1 not in CONTROLLERS:
+            is_flipping = False
+            start = start if step.call is None else _start_address(clock)
+            yield step
+            continue
+        before, start = start, _start_address(clock)
         # A step that goes on with a flip that another has begun has no frame of its own.
-        if address != last and not is_flipping:
+        if start != before and not is_flipping:
             yield TraceStep(FRAME, time=step.time)
-        is_flipping = address != last or (is_flipping and bool(written) and index in address)
+        goes_on = is_flipping and clock.card.registers().crtc_index in START_ADDRESS
+        is_flipping = start != before or goes_on
         yield step
+
+
+def _start_address(clock: Clock) -> Sequence[int]:
+    """The CRT controller's registers of the start address."""
+    crtc = clock.card.registers().crtc
+    return [crtc[index] for index in START_ADDRESS]
 
 
 def with_frames_every(seconds: float, steps: Iterable[TraceStep]) -> Iterator[TraceStep]:
@@ -191,8 +197,10 @@ class Listing:
         most: Optional[int] = None,
         first: int = 1,
         longest: float = 1,
+        fonts: Optional[str] = None,
     ) -> None:
         self.trace = trace
+        self._fonts = fonts
         self._keeps_polls = keeps_polls
         self._has_time = has_time
         self._frames = frames
@@ -246,14 +254,11 @@ class Listing:
             yield f"{cycles} {has} without a pause"
 
     def _from_the_middle(self, steps: Iterator[TraceStep]) -> Iterator[TraceStep]:
-        follower = Follower()
+        follower = Follower(self._fonts)
         for step in steps:
             if step.cycle >= self._first:
                 break
-            if step.opcode == FRAME:
-                follower.end_frame()
-            else:
-                follower.take(step.data())
+            follower.take(step)
         else:
             cycles = counted(self.trace.count, "cycle", ",")
             told = f"it has {cycles}, and none from {self._first:,} on becomes a step"
@@ -638,21 +643,21 @@ def _judged(step: TraceStep, number: int, answer: Optional[Answer], name: str) -
 
 
 class Checking:
-    """Holds the answers of reports against the steps of a trace, one report after the other.
+    """Holds the answers of reports against the steps of a trace, one report after the other. A card
+    follows the steps.
 
     Where time has passed by the dots of the trace, the beam is where it was.
     """
 
-    def __init__(self, has_time: bool = False) -> None:
+    def __init__(self, has_time: bool = False, fonts: Optional[str] = None) -> None:
         self.checked = Checked()
+        self.follower = Follower(fonts)
         self._has_time = has_time
-        self._banks = Banks()
-        # The last byte that each index port was given, also by a step that was refused.
+        # The last byte that each port of an index was given, also by a step that was refused.
         self._given: dict[int, int] = {}
         # How many steps were refused that qemu does, and why the first of them was.
         self._left_out = 0
         self._why = ""
-        self._reasons = Reasons()
 
     def left_out(self) -> str:
         """What is told of the steps so far that ask for what the adapter leaves out; empty if there
@@ -672,8 +677,9 @@ class Checking:
                 checked.steps += 1
             else:
                 self._take(step, answer, name)
-            if step.opcode in PORTS or step.opcode == INT:
-                self._follow(step)
+            if step.opcode in (OUT, OUTW) and step.address in INDEX_PORTS:
+                self._given[step.address] = step.value & 0xFF
+            self.follower.take(step)
         if next(answers, None) is not None:
             raise Trouble(
                 f"it has more than the {self.checked.steps:,} steps of the trace: {OTHER_SCRIPT}",
@@ -691,8 +697,10 @@ class Checking:
         if answer.answer.startswith(LEFT_OUT):
             self._left_out += 1
             if not self._why:
-                why = self._reasons.why(step.data(), answer.refusal)
-                self._why = f"{format.printed(step.step)}: {why or answer.answer}"
+                reason = self.follower.card.explain_step(HEADERS[1] + step.data())
+                is_it = reason is not None and reason.refusal.number == answer.refusal
+                why = reason.text if reason is not None and is_it else answer.answer
+                self._why = f"{format.printed(step.step)}: {why}"
 
     def _kind(self, step: TraceStep) -> str:
         if step.call is not None:
@@ -703,30 +711,16 @@ class Checking:
 
     def _index(self, port: int) -> int:
         """The number of the register that a port of data reaches; -1 of any other port."""
+        card = self.follower.card
         if port == ATTRIBUTE_READ:
-            return self._banks.attr.number
+            return card.registers().attr_index & INDEX
         if port - 1 not in INDEX_PORTS:
             return -1
-        bank = self._banks.bank(port - 1)
-        return self._given.get(port - 1, 0) & 0x1F if bank is None else bank.number
-
-    def _follow(self, step: TraceStep) -> None:
-        if not self._why:
-            self._reasons.take(step.data())
-        if step.opcode == OUT:
-            self._write(step.address, step.value)
-        elif step.opcode == OUTW:
-            self._write(step.address, step.value & 0xFF)
-            self._write(step.address + 1, step.value >> 8)
-        elif step.opcode != INT and step.address == self._banks.controller + STATUS:
-            self._banks.read_status()
-
-    def _write(self, port: int, value: int) -> None:
-        if port in DAC_PORTS:
-            return
-        if port in INDEX_PORTS:
-            self._given[port] = value
-        self._banks.write(port, value)
+        try:
+            return card.inp(port - 1) & INDEX
+        except zaklimot.Refusal:
+            # The adapter has no such port now: the index is what the software gave.
+            return self._given.get(port - 1, 0) & INDEX
 
 
 @lru_cache(1 << 12)

@@ -4,35 +4,16 @@ import argparse
 from collections import Counter
 from typing import Iterable, Iterator, NamedTuple, Sequence
 
-from zaklimot import format
-from zaklimot.format import PLANE_BYTES, Answer
 from zaklimot.commands.core.files import name_of
 from zaklimot.commands.core.progress import Progress
+from zaklimot.commands.core.streams import counted
 from zaklimot.commands.core.trouble import AGREED, DIFFERED
-from zaklimot.commands.explain.banks import WINDOWS
-from zaklimot.commands.explain.clocks import Registers
-from zaklimot.commands.explain.raster import is_graphics
-from zaklimot.commands.script.program import tried_program
 
-from .cells import code_page, text_of
+from .cells import TextScreen, code_page
+from .following import Follower
 from .moments import Steps
-from .step import FRAME, INT, PUT, PUTW, WRITES, TraceStep
-from .told import SHOWN_BYTES, Told
+from .step import FRAME, WRITES
 from .trace import opened
-from .walking import Item, Question, Walk
-
-# Characters and attributes are in two planes, which are shown block by block.
-TEXT = (0, 1)
-BLOCKS = range(PLANE_BYTES // SHOWN_BYTES)
-WINDOW_BEGINS = sorted({window.first for window in WINDOWS})
-
-
-class At(NamedTuple):
-    """When a screen is looked at, as `--at` and `--cycle` take it; `is_last` tells the last answer
-    about it."""
-
-    told: str
-    is_last: bool
 
 
 class Found(NamedTuple):
@@ -86,59 +67,6 @@ class Finder:
                 yield Found(told, row, column, rows[row].strip())
 
 
-class Asking:
-    """Asks for the text where frames end: for its registers, and for the blocks of the two planes
-    that may have changed since."""
-
-    def __init__(self, steps: Steps) -> None:
-        self._steps = steps
-        # What the adapter tells counts; this alone tells where asking is of no use.
-        self._registers = Registers()
-        self._blocks = set(BLOCKS)
-        self._is_changed = False
-
-    def items(self) -> Iterator[Item[At]]:
-        """The steps of the trace, and the questions among them."""
-        for step in self._steps.with_frames():
-            if step.opcode != FRAME:
-                self._take(step)
-                yield step
-            elif self._is_changed and not is_graphics(self._registers.banks.gfx.registers):
-                yield from self._asked()
-
-    def _take(self, step: TraceStep) -> None:
-        self._registers.take(step.step)
-        self._is_changed |= step.opcode in WRITES
-        if step.opcode == INT:
-            self._blocks = set(BLOCKS)
-        elif step.opcode in (PUT, PUTW):
-            # Whichever window there is, the byte is in one of these blocks, or the next one.
-            for first in WINDOW_BEGINS:
-                place = step.address - first
-                self._blocks.update((place >> 8 & 0xFF, place + 1 >> 8 & 0xFF))
-
-    def _asked(self) -> Iterator[Question[At]]:
-        planes = (
-            (plane, block << 8, SHOWN_BYTES) for block in sorted(self._blocks) for plane in TEXT
-        )
-        asked = [*(format.Step("show plane", one) for one in planes), format.Step("show regs", ())]
-        self._blocks = set()
-        self._is_changed = False
-        for left, step in enumerate(asked, 1 - len(asked)):
-            yield Question(step, At(self._steps.passed.told, left == 0))
-
-
-def _screens(
-    answers: Iterator[tuple[At, Answer]], letters: str, name: str
-) -> Iterator[tuple[Sequence[str], str]]:
-    """The rows of each screen of text, and when it was looked at."""
-    told = Told()
-    for at, answer in answers:
-        told.take(answer)
-        if at.is_last and not is_graphics(told.state.gfx.registers):
-            yield text_of(told.state, letters, name), at.told
-
-
 def find_text(words: argparse.Namespace, progress: Progress) -> int:
     """Tells when and where a trace shows a text; whether it does."""
     count = 0
@@ -159,12 +87,29 @@ def find_text(words: argparse.Namespace, progress: Progress) -> int:
 def _all_found(words: argparse.Namespace, progress: Progress) -> Iterator[Found]:
     """Each place of the text that words name, screen by screen, and from the top to the bottom."""
     letters = code_page(words.code_page)
-    walk = Walk(tried_program(words.vga, words.fonts), words.fonts, progress)
     finder = Finder(words.find, words.any_case)
     with opened(words.trace) as trace:
-        answers = walk.answers(Asking(Steps(trace)).items())
-        for rows, told in _screens(answers, letters, name_of(words.trace)):
+        for rows, told in _screens(Steps(trace), words, letters, progress):
             yield from sorted(finder.take(rows, told), key=lambda one: (one.row, one.column))
+
+
+def _screens(
+    steps: Steps, words: argparse.Namespace, letters: str, progress: Progress
+) -> Iterator[tuple[Sequence[str], str]]:
+    """The rows of text where frames end in which something was written, and when that is."""
+    follower = Follower(words.fonts)
+    screen = TextScreen(follower, name_of(words.trace))
+    is_changed = False
+    for step in steps.with_frames():
+        if step.opcode != FRAME:
+            follower.take(step)
+            is_changed |= step.opcode in WRITES
+        elif is_changed:
+            is_changed = False
+            if screen.is_text:
+                yield screen.text(letters), steps.passed.told
+        if progress.is_due():
+            progress.tell(counted(steps.passed.cycles, "cycle", ","))
 
 
 def _line(found: Found) -> str:

@@ -188,7 +188,6 @@ def check_keys(deeds: Sequence[Deed]) -> None:
 def record(machine: PageMachine, kept: Path, say: Say, progress: Progress) -> Note:
     """Leaves a trace, the dumps of screens and a note in a folder; `say` tells what may spoil
     them."""
-    check_node()
     note = Note(PAGE_MACHINE, [Path(machine.file).name])
     given = [machine.file, *([] if machine.rom is None else [machine.rom])]
     note.software = {Path(name).name: digest for name, digest in digests_of(given).items()}

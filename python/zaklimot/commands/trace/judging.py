@@ -11,7 +11,7 @@ from zaklimot.commands.core.trouble import AGREED, DIFFERED
 
 from .converting import Listing
 from .note import VERDICT, Note, told_of_beam
-from .replaying import Replay, Screen, replay
+from .replaying import Program, Replay, Screen, replay
 from .trace import Trace
 
 # So many kinds of refusals, of reads and of differing reads are told of a recording.
@@ -51,9 +51,9 @@ def warn(lacking: Union[Listing, Trace], name: str) -> None:
 
 @dataclass(frozen=True)
 class Judging:
-    """Judges recordings by a program."""
+    """Judges recordings by the library, or by a program."""
 
-    program: str
+    program: Program
     fonts: str
     progress: Progress
 

@@ -7,21 +7,20 @@ screen.
 
 from __future__ import annotations
 
-import io
 from collections import deque
 from dataclasses import dataclass, field
 from functools import cached_property
 from itertools import chain, count, islice
 from math import inf
 from pathlib import Path
+from shutil import copyfileobj
 from tempfile import TemporaryDirectory
-from threading import Event
-from typing import Any, Callable, Iterator, Mapping, Sequence, cast
+from typing import Any, Callable, Iterable, Iterator, Mapping, Optional, Sequence, Union
 
+import zaklimot
 from zaklimot.format import Answer, Picture
 from zaklimot.format.answers import RAGGED
 from zaklimot.format.picture import marks_in_row
-from zaklimot.commands.core.processes import Limits, run_command, said_last
 from zaklimot.commands.core.progress import Progress
 from zaklimot.commands.core.streams import reading, writing
 from zaklimot.commands.core.trouble import Trouble
@@ -42,21 +41,20 @@ from zaklimot.commands.images.holding import held
 from zaklimot.commands.images.png import save_png
 from zaklimot.commands.images.reading import Image, image_bytes, image_of
 from zaklimot.commands.report.report import Report
-from zaklimot.commands.report.reports import delays_of
-from zaklimot.commands.script.program import BuiltProgram, check_ended
+from zaklimot.commands.script.own import OwnProgram
+from zaklimot.commands.script.program import BuiltProgram, fault_of
+from zaklimot.commands.script.speed import passed_of, seconds_of, speed_of
 
 from .asked import SCREENS
 from .converting import Checked, Checking, Listing, Rows, Written, folded
-from .cutting import NOT_REBUILT, REST_OF_FRAME, Cutting, ScriptEnd
-from .rebuilding import steps_behind
+from .cutting import REST_OF_FRAME, ScriptEnd, end_with_frame
+from .following import Follower, steps_behind
 from .recording import PHASES, dump
-from .state import State
-from .step import TraceStep
-from .told import Told
+from .step import ADVANCE, FRAME, TraceStep
 from .trace import opened
 
-# A run may take so many seconds and bytes.
-MOST_RUN = Limits(600, 1 << 32)
+# What runs a script.
+Program = Union[BuiltProgram, OwnProgram]
 # The page that tells what qemu is known to show otherwise.
 PAGE = "docs/EMULATORS.md"
 # Dots of a character where there are nine.
@@ -70,13 +68,15 @@ class Screen:
     """A dump of a screen, held against the picture here, and the names of what is known of how they
     differ.
 
-    `state` is that of the moment, `cycle` how many cycles came before, `lacking` what the trace
+    `registers` are those of the moment, `blinks` whether a character of text memory does then if
+    the registers allow it, `cycle` how many cycles came before, `lacking` what the trace
     lacks up to there, and `refused` what is told of the cycles that were refused. What was held of
     the picture is all of it, or its front where qemu leaves out the last lines, or all but the
     ninth dots of its cells. Of the page's own machine nothing is known that differs.
     """
 
-    state: State
+    registers: zaklimot.Registers
+    blinks: bool
     picture: Picture
     image: Image
     dump: Path = Path()
@@ -91,12 +91,11 @@ class Screen:
         for part_of in () if self.is_own else (whole_rows, narrow_cells):
             if self.held.differing is not None:
                 break
-            part = part_of(self.state, self.picture)
+            part = part_of(self.registers, self.picture)
             found = held(part, self.image)
             if found.differing is not None:
                 self.part = part
                 self.held = found
-        # The state goes on from here: what it tells is asked now.
         self.names = {} if self.is_equal or self.is_own else _known(self)
 
     @property
@@ -112,7 +111,7 @@ class Screen:
     @property
     def is_text(self) -> bool:
         """Whether the screen is text."""
-        return not is_graphics(self.state.gfx.registers)
+        return not is_graphics(self.registers.gfx)
 
     @property
     def cut(self) -> int:
@@ -182,38 +181,33 @@ class Screen:
 
 
 def _has_blinking(screen: Screen) -> bool:
-    """Whether a character of text memory blinks: bit 7 of its attribute, which is in plane 1."""
-    state = screen.state
-    return bool(
-        screen.is_text
-        and state.attr.registers[0x10] & 8
-        and any(word & 0x8000 for word in state.memory.words)
-    )
+    """Whether a character blinks."""
+    return bool(screen.is_text and screen.registers.attr[0x10] & 8 and screen.blinks)
 
 
 def _is_ninth(screen: Screen) -> bool:
     """Whether all dots are ninth dots of characters whose line graphics go on into them."""
-    is_wide = character_dots(screen.state.seq.registers) == NINE
-    has_nine = screen.is_text and is_wide and screen.state.attr.registers[0x10] & 4
+    is_wide = character_dots(screen.registers.seq) == NINE
+    has_nine = screen.is_text and is_wide and screen.registers.attr[0x10] & 4
     is_last = all(x % NINE == NINE - 1 for x, _ in screen.dots)
     return bool(has_nine and screen.dots) and is_last
 
 
 def _is_split(screen: Screen) -> bool:
-    crtc = screen.state.crtc.registers
+    crtc = screen.registers.crtc
     return screen.is_text and line_compare(crtc) < last_line(crtc)
 
 
 def _has_underline(screen: Screen) -> bool:
-    crtc = screen.state.crtc.registers
+    crtc = screen.registers.crtc
     return screen.is_text and underline_scan(crtc) <= last_scan(crtc)
 
 
 def _has_two_fonts(screen: Screen) -> bool:
     """Whether bit 3 of an attribute chooses between two fonts, and colour plane enable takes it off
     the colour."""
-    maps = character_maps(screen.state.seq.registers)
-    return screen.is_text and maps.a != maps.b and not screen.state.attr.registers[0x12] & 8
+    maps = character_maps(screen.registers.seq)
+    return screen.is_text and maps.a != maps.b and not screen.registers.attr[0x12] & 8
 
 
 def _is_split_within_row(screen: Screen) -> bool:
@@ -224,7 +218,7 @@ def _is_split_within_row(screen: Screen) -> bool:
     """
     picture = screen.part
     image = screen.held.image
-    crtc = screen.state.crtc.registers
+    crtc = screen.registers.crtc
     begin = line_compare(crtc) + 1
     lines = row_lines(crtc)
     had = begin % lines
@@ -236,25 +230,21 @@ def _is_split_within_row(screen: Screen) -> bool:
     )
 
 
-def whole_rows(state: State, picture: Picture) -> Picture:
+def whole_rows(registers: zaklimot.Registers, picture: Picture) -> Picture:
     """A picture of text without a last row that isn't whole; the picture itself if there is
     none."""
-    height = picture.height - picture.height % row_lines(state.crtc.registers)
+    height = picture.height - picture.height % row_lines(registers.crtc)
     # Under double scan qemu counts other lines to a row.
-    if (
-        is_graphics(state.gfx.registers)
-        or is_doubled(state.crtc.registers)
-        or height in (0, picture.height)
-    ):
+    if is_graphics(registers.gfx) or is_doubled(registers.crtc) or height in (0, picture.height):
         return picture
     return Picture.of_dots(picture.width, height, b"".join(picture.row(y) for y in range(height)))
 
 
-def narrow_cells(state: State, picture: Picture) -> Picture:
+def narrow_cells(registers: zaklimot.Registers, picture: Picture) -> Picture:
     """A picture of text without the ninth dots of its cells, where each dot is doubled; the picture
     itself if there are none."""
-    clocking = state.seq.registers[1]
-    if is_graphics(state.gfx.registers) or clocking & 9 != 8 or picture.width % NINE:
+    clocking = registers.seq[1]
+    if is_graphics(registers.gfx) or clocking & 9 != 8 or picture.width % NINE:
         return picture
     rows = (picture.row(y) for y in range(picture.height))
     dots = b"".join(row[at : at + 24] for row in rows for at in range(0, len(row), 3 * NINE))
@@ -270,15 +260,15 @@ SEEN: Mapping[str, Callable[[Screen], bool]] = {
 }
 # .. and what registers and memory allow.
 ALLOWED: Mapping[str, Callable[[Screen], bool]] = {
-    "palette address source": lambda screen: not screen.state.attr.index & 0x20,
-    "screen off": lambda screen: bool(screen.state.seq.registers[1] & 0x20),
-    "DAC mask": lambda screen: screen.state.dac.mask != 0xFF,
+    "palette address source": lambda screen: not screen.registers.attr_index & 0x20,
+    "screen off": lambda screen: bool(screen.registers.seq[1] & 0x20),
+    "DAC mask": lambda screen: screen.registers.dac_mask != 0xFF,
     "ninth dot": _is_ninth,
     "colour plane enable": _has_two_fonts,
-    "preset row scan": lambda screen: preset_scan(screen.state.crtc.registers) > 0,
+    "preset row scan": lambda screen: preset_scan(screen.registers.crtc) > 0,
     "panning": (
-        lambda screen: screen.state.attr.registers[0x13] not in (0, 8)
-        or byte_panning(screen.state.crtc.registers) > 0
+        lambda screen: screen.registers.attr[0x13] not in (0, 8)
+        or byte_panning(screen.registers.crtc) > 0
     ),
     "line compare": _is_split,
     "underline": _has_underline,
@@ -312,7 +302,6 @@ class Replay:
     folder: Path
     cycles: Sequence[int]
     checking: Checking = field(default_factory=Checking)
-    state: State = field(default_factory=State)
     screens: dict[int, Screen] = field(default_factory=dict)
     is_own: bool = False
     _dumps: int = 0
@@ -321,13 +310,6 @@ class Replay:
     def checked(self) -> Checked:
         """What was found of the answers so far."""
         return self.checking.checked
-
-    def steps(self) -> Iterator[TraceStep]:
-        """The steps, of which the state is kept, as far as something hangs on it."""
-        for step in self.listing.steps():
-            if not self.is_own:
-                self.state.take(step)
-            yield step
 
     def answers(self, answers: Iterator[Answer]) -> Iterator[Answer]:
         """The answers, of which each `frame` but the last is that of a dump."""
@@ -356,8 +338,11 @@ class Replay:
             return
         image = image_of(image_bytes(str(path)), str(path))
         cycle = self.cycles[self._dumps]
+        card = self.checking.follower.card
         screen = Screen(
-            self.state,
+            card.registers(),
+            # Bit 7 of an attribute, which are in plane 1.
+            max(card.plane(1)) >= 0x80,
             picture,
             image,
             path,
@@ -381,15 +366,15 @@ def script_files(folder: Path, number: int) -> tuple[Path, Path]:
     return folder / f"script{middle}.bin", folder / f"report{middle}.txt"
 
 
-def _run_script(program: str, fonts: str, script: Path, report: Path) -> None:
+def _run_script(program: Program, fonts: str, script: Path, report: Path) -> None:
+    """Runs a script, and leaves its report once it is whole."""
+    name = program.path if isinstance(program, BuiltProgram) else str(script)
     with TemporaryDirectory(prefix=".run.", dir=report.parent) as made:
-        answers, messages = Path(made) / "report", Path(made) / "said"
-        outcome = run_command(
-            [program, "run", script, "--fonts", fonts], answers, messages, MOST_RUN, Event()
-        )
-        if outcome.status != 0:
-            ended = outcome.reason or f"it ended with status {outcome.status}"
-            raise Trouble(f"{ended}: {said_last(messages) or 'it said nothing'}", program)
+        answers = Path(made) / "report"
+        with program.running(script, fonts, None, True) as run, open(answers, "wb") as stream:
+            copyfileobj(run.report, stream)
+        if run.status:
+            raise Trouble(f"it ended with status {run.status}: {fault_of(run)}", name)
         answers.replace(report)
 
 
@@ -407,42 +392,34 @@ def _write_script(rows: Rows, before: Sequence[TraceStep], script: Path, spare: 
     return written
 
 
-def _check_rebuilding(steps: Sequence[TraceStep], answers: Iterator[Answer], name: str) -> None:
-    """Ends the work where a state wasn't rebuilt: no verdict on what follows would be worth
-    anything."""
-    checking = Checking()
-    checking.take(steps, answers, name)
-    if not checking.checked.agrees:
-        told = "\n".join(checking.checked.lines(1))
-        raise Trouble(f"{NOT_REBUILT}:\n{told}", name)
-
-
 class _Scripts:
     """The scripts of a recording, which are made from its steps, run and held against these, one
     after the other."""
 
-    def __init__(self, done: Replay, rows: Rows, cutting: Cutting) -> None:
+    def __init__(self, done: Replay, rows: Rows, program: Program, fonts: str) -> None:
         self._done = done
         self._rows = rows
-        self._cutting = cutting
-        self._steps = done.steps()
-        # The steps that rebuild the state before the next script, and what the adapter told of it.
+        self._program = program
+        self._fonts = fonts
+        self._steps = done.listing.steps()
+        # The steps that rebuild the state before the next script.
         self._before: Sequence[TraceStep] = ()
-        self._told = Told()
 
-    def make(self, program: str, fonts: str, progress: Progress) -> None:
+    def make(self, progress: Progress) -> None:
         """Makes them all."""
         for number in count(1):
             script, report = script_files(self._done.folder, number)
             written, ended = self._write(script)
-            _run_script(program, fonts, script, report)
+            _run_script(self._program, self._fonts, script, report)
             with reading(str(report)) as stream:
                 answers = self._done.answers(Report(stream, str(report), progress).steps())
                 self._hold(written, ended, answers, str(report))
             self._done.take_script(written, len(self._before), number)
             if self._rows.are_done:
                 break
-            self._go_on(ended, steps_behind(script.read_bytes(), fonts))
+            # The next script begins with steps that rebuild the state.
+            self._steps = chain(ended.left, self._steps)
+            self._before = steps_behind(script.read_bytes(), self._fonts)
         # What the trace lacks is known at its end.
         deque(self._steps, 0)
 
@@ -452,32 +429,25 @@ class _Scripts:
         spare = REST_OF_FRAME if is_own else 0
         written = _write_script(self._rows, self._before, script, spare)
         ended = ScriptEnd()
-        if self._before and is_own:
-            self._cutting.check_rebuilt(script, len(self._before), self._told)
         if is_own and not self._rows.are_done:
-            ended, self._rows = self._cutting.end(script, written, self._rows)
+            ended, self._rows = end_with_frame(script, written, self._rows, self._fonts)
         return written, ended
 
     def _hold(
         self, written: Written, ended: ScriptEnd, answers: Iterator[Answer], name: str
     ) -> None:
-        before = self._before
-        _check_rebuilding(before, islice(answers, len(before)), name)
-        own = written.steps - len(before) - len(ended.steps)
+        before = len(self._before)
+        # The card rebuilds its state by these steps, and has compared it.
+        deque(islice(answers, before), 0)
+        own = written.steps - before - len(ended.steps)
         if not (own or ended.steps):
             raise Trouble("no step has room beside those that rebuild the state", name)
         steps = chain(islice(self._steps, own), ended.as_traced(self._steps))
         self._done.checking.take(steps, answers, name)
 
-    def _go_on(self, ended: ScriptEnd, before: Sequence[TraceStep]) -> None:
-        """Goes on after a script: the next one begins with steps that rebuild the state."""
-        self._steps = chain(ended.left, self._steps)
-        self._told = ended.told
-        self._before = before
-
 
 def replay(
-    folder: Path, program: str, fonts: str, progress: Progress, is_own: bool = False
+    folder: Path, program: Program, fonts: str, progress: Progress, is_own: bool = False
 ) -> Replay:
     """Makes script.bin and report.txt beside a trace and its screens in a folder, and holds all
     against one another.
@@ -489,33 +459,42 @@ def replay(
         given: dict[str, Any] = {"has_time": is_own, "frames": SCREENS}
         rows = Rows(folded(Listing(made, **given).steps(), TraceStep.data))
         listing = Listing(read, **given)
-        checking = Checking(is_own)
+        checking = Checking(is_own, fonts)
         done = Replay(Written(False), listing, folder, read.screens, checking, is_own=is_own)
-        _Scripts(done, rows, Cutting(program, fonts, progress)).make(program, fonts, progress)
+        _Scripts(done, rows, program, fonts).make(progress)
     return done
 
 
 def shown(
-    program: str, fonts: str, script: Path, at_last: float
+    steps: Iterable[TraceStep], fonts: str, progress: Progress
 ) -> Iterator[tuple[Picture, float]]:
-    """The pictures of a script that the program runs, each with the seconds that it is seen, the
-    last with so many more.
+    """The pictures at the frames of steps, each with the seconds that it is seen.
 
     Equal ones that follow one another are one.
     """
-    delay = delays_of(str(script))
+    follower = Follower(fonts)
+    last: Optional[Picture] = None
     seconds = 0.0
-    last: Picture | None = None
-    with BuiltProgram(program).running(script, fonts, None, True) as outcome:
-        for answer in Report(cast(io.BufferedReader, outcome.report), "report").steps():
-            if not isinstance(answer.picture, Picture):
-                continue
-            if last is not None and answer.picture.ppm != last.ppm:
-                yield last, seconds
-                seconds = 0.0
-            last = answer.picture
-            seconds = seconds + delay(answer.number)
-    check_ended(outcome, program)
+    dots = 0
+    for number, step in enumerate(steps, 1):
+        if progress.is_due():
+            progress.tell(f"step {number:,}")
+        if step.opcode != FRAME:
+            dots += step.address if step.opcode == ADVANCE else 0
+            follower.take(step)
+            continue
+        speed = speed_of(follower.card)
+        seconds += passed_of(speed, dots)
+        dots = 0
+        picture = follower.picture()
+        if picture is None:
+            continue
+        if last is not None and picture.ppm != last.ppm:
+            yield last, seconds
+            seconds = 0.0
+        seconds = (0.0 if last is None else seconds) + seconds_of(speed)
+        last = picture
+    progress.clear()
     if last is None:
         raise Trouble("no frame has a picture")
-    yield last, seconds + at_last
+    yield last, seconds

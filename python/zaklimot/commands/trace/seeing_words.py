@@ -7,7 +7,7 @@ from zaklimot.commands.core import cli
 from zaklimot.commands.core.cli import add, later, rule
 from zaklimot.commands.core.files import STANDARD, Input, Output
 from zaklimot.commands.core.words import number_to, seconds
-from zaklimot.commands.script.words import add_program
+from zaklimot.commands.script.words import add_fonts
 
 from .asked import FORMS, PLAIN, USUAL_PAGE
 
@@ -58,7 +58,7 @@ def add_text(commands: cli.Commands) -> None:
     made = cli.command(commands, "text", _seeing("show_text"), told, example, note)
     add(made, "TRACE", TRACE, type=Input)
     add_moment(made)
-    add_program(made)
+    add_fonts(made)
     told = "the text; - is standard output (default: -)"
     add(made, "OUTPUT", told, nargs="?", type=Output, default=STANDARD)
     told = (

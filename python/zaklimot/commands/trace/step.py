@@ -7,7 +7,7 @@ from typing import Callable, Iterable, Iterator, NamedTuple, Optional, Sequence,
 
 from zaklimot import format
 from zaklimot.format import FORMS
-from zaklimot.commands.explain.banks import COLOUR, MONOCHROME, STATUS
+from zaklimot.commands.explain.ports import COLOUR, MONOCHROME, STATUS
 
 from .trace import MEMORY, NO_VGA, PORT, Call, Cycle
 

@@ -19,7 +19,7 @@ from zaklimot.format import MOST_BLOCK
 from zaklimot.commands.core.files import name_of
 from zaklimot.commands.core.streams import counted, reading, to_read
 from zaklimot.commands.core.trouble import Trouble
-from zaklimot.commands.explain.banks import MISC, SEQUENCER
+from zaklimot.commands.explain.ports import MISC, SEQUENCER
 
 from .folding import FOLDED
 from .parts import Chained, parts_of

@@ -10,7 +10,7 @@ from zaklimot.commands.core.cli import add, later, rule
 from zaklimot.commands.core.files import Input, Output, PictureFolder
 from zaklimot.commands.core.words import number_to, seconds
 from zaklimot.commands.images.words import add_shape
-from zaklimot.commands.script.words import add_program
+from zaklimot.commands.script.words import add_fonts, add_program
 
 from .asked import CLOCK, END, FIRST, FLIP, KEEP, QUIET, SCREENS, SPEEDS, USUAL_SPEED, Deed
 from .seeing_words import MOMENT, MOST_CYCLES, TRACE, add_moment, add_text
@@ -177,7 +177,7 @@ def _add_pictures(parser: argparse.ArgumentParser) -> None:
     add(parser, "--beam", told)
     add_shape(parser)
     _add_longest(parser)
-    add_program(parser)
+    add_fonts(parser)
 
 
 def _moves(words: argparse.Namespace) -> bool:
