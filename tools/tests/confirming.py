@@ -23,15 +23,6 @@ from zaklimot.format import (
     encoded,
     refusal_of,
 )
-from zaklimot.commands.report.dumps import (
-    GROUPS,
-    DumpedBank,
-    all_bytes_in,
-    beam_in,
-    bios_data_in,
-    latches_in,
-    registers_in,
-)
 from zaklimot.commands.script.library import use_library
 from zaklimot.commands.script.words import FONTS
 from zaklimot.commands.steps.comparing import differences
@@ -57,6 +48,16 @@ from zaklimot.commands.steps.scripts import (
     places_of,
     reached,
     scripted,
+)
+
+from .dumps import (
+    GROUPS,
+    DumpedBank,
+    all_bytes_in,
+    beam_in,
+    bios_data_in,
+    latches_in,
+    registers_in,
 )
 
 # The refusals as reports have them, with their names.

@@ -5,25 +5,18 @@ from __future__ import annotations
 
 import contextlib
 import io
-import os
-import unittest
 from contextlib import ExitStack
-from pathlib import Path
-from types import SimpleNamespace
-from typing import Any
-from unittest import mock
 
-from zaklimot.format import Picture, Report
+from zaklimot.format import Picture
 from zaklimot.commands.core.progress import Progress
-from zaklimot.commands.explain.clocks import Registers
-from zaklimot.commands.trace import command
+from zaklimot.commands.script.words import FONTS
 from zaklimot.commands.trace.comparing import Recording, ShownPicture, _compare_pictures, _drawn
-from zaklimot.commands.trace.step import ADVANCE, TraceStep
-from zaklimot.commands.trace.walking import FRAME_STEP, Question
+from zaklimot.commands.trace.following import followed
+from zaklimot.commands.trace.step import TraceStep
 
 from .test_seeing import Seen
-from .tools import Folder, hold, hold_undone, png_rows, ppm, report, stream
-from .tracing import BEGIN, registers, run
+from .tools import Folder, hold, png_rows, ppm, want_library
+from .tracing import BEGIN, drawing, registers
 
 
 MODE = "0 int 3 0 0 0\n"
@@ -32,8 +25,6 @@ ALIKE = f"register writes: the first is equal{NO_MORE}"
 SMALL, LARGE = ppm(2, 1, bytes(6)), ppm(4, 3, bytes(36))
 # A letter, and after half a second another one.
 STANDING = MODE + "1 w m B8000 41 1\n500001 w m B8000 42 1\n"
-# Something is written in one frame, five seconds later, and later once more.
-SILENT = BEGIN + b"20000 w m A0000 1 1\n5020000 w m A0000 2 1\n5040000 w m A0000 3 1\n"
 
 
 class Differences(Seen):
@@ -123,13 +114,15 @@ class Differences(Seen):
         self.assertEqual((status, lines[:4]), (1, wanted))
 
     def test_after_each_picture_all_blinks_as_before(self) -> None:
+        want_library()
         # 32 frames, the drawn one among them, after which the cursor and blinking text are alike.
-        known = Registers()
-        self.assertEqual([*_drawn(known, "x")][0], Question(FRAME_STEP, "x"))
-        for step in registers(0x67, 0):
-            known.take(step.step)
-        _, *rest = _drawn(known, "x")
-        self.assertEqual(rest, [TraceStep(ADVANCE, 31 * 900 * 449)])
+        shapes: list[list[TraceStep]] = [[], registers(0x67, 0)]
+        for steps in shapes:
+            follower = followed(steps, str(FONTS), Progress())
+            begun = follower.card.beam()
+            self.assertIsNotNone(_drawn(follower))
+            self.assertEqual(follower.card.beam().frame, begun.frame)
+            self.assertTrue(follower.card.peek().widths)
 
     def test_more_pictures_and_another_size(self) -> None:
         out = self.folder / "differing.png"
@@ -157,7 +150,7 @@ class Differences(Seen):
         self.assertFalse(out.exists())
 
 
-class Shown(unittest.TestCase):
+class Shown(Folder):
     def told(self, one: list[ShownPicture], other: list[ShownPicture]) -> list[str]:
         """What is told of two recordings that show these pictures."""
         output = io.StringIO()
@@ -190,103 +183,12 @@ class Shown(unittest.TestCase):
         )
 
     def test_of_frames_that_are_alike_the_first_is_shown(self) -> None:
-        given: list[str | bytes] = ["ragged", "ragged", SMALL, SMALL, "ragged", LARGE]
-        answers = list(enumerate(Report(stream(report(*given))).answers()))
-        walk: Any = SimpleNamespace(answers=lambda items: answers)
-        with ExitStack() as stack:
-            shown = list(Recording("one", 1).pictures(walk, stack))
+        given = [None, None, SMALL, SMALL, None, LARGE]
+        # Each write but the first comes long after the one before.
+        writes = "".join(f"{at}000000 w m A0000 1 1\n" for at in range(len(given)))
+        trace = self.write("one", BEGIN + writes.encode())
+        with ExitStack() as stack, drawing(*given):
+            shown = list(Recording(trace, 1).pictures(str(FONTS), stack))
         sizes = [None, "2x1", None, "4x3"]
         self.assertEqual([one.picture and one.picture.size for one in shown], sizes)
-        self.assertEqual([one.told for one in shown], [0, 2, 4, 5])
-
-
-class Options(Folder):
-    def pictures(self, *words: str, given: bytes = SILENT) -> tuple[int, bytes, str]:
-        """What `pictures` does with a program of three pictures."""
-        program = self.answering("ok", SMALL, "ok", LARGE, "ok", SMALL, "ok", SMALL)
-        return run("pictures", self.write("trace", given), *words, "--vga", program)
-
-    def test_silences_last_as_long_as_is_asked(self) -> None:
-        for words, told in (
-            ((), "1 s, and 4.0 s left out so"),
-            (("--longest", "3"), "3 s, and 2.0 s left out so"),
-        ):
-            status, data, said = self.pictures("--apng", "-", *words)
-            name = self.folder / "trace"
-            self.assertEqual(status, 0)
-            lines = said.splitlines()
-            self.assertEqual(lines[0], f"zaklimot: warning: {name}: 1 silence cut to {told}")
-            self.assertRegex(lines[1], r"^standard output: 3 pictures, \d\.\d{3} seconds$")
-            self.assertEqual(png_rows(data)[:2], (4, 3))
-        said = run("convert", "-", "-", "--frames", "clock", "--longest", "2", given=SILENT)[2]
-        self.assertIn("1 silence cut to 2 s, and 3.0 s left out so\n", said)
-        self.assertEqual(self.pictures("--apng", "-", "--longest", "5.1")[2].count("\n"), 1)
-
-    def test_stills_have_the_shape_that_is_asked(self) -> None:
-        folder = self.folder / "pictures"
-        status, output, said = self.pictures(str(folder), "--scale", "2", "--longest", "9")
-        paths = [folder / line.rpartition("/")[2] for line in output.decode().splitlines()]
-        self.assertEqual((status, said), (0, ""))
-        sizes = [png_rows(path.read_bytes())[:2] for path in paths]
-        self.assertEqual(sizes, [(4, 2), (8, 6), (4, 2)])
-
-    def test_pictures_that_take_too_much(self) -> None:
-        with mock.patch.object(command, "MOST_PACKED", 20):
-            done = self.pictures("--apng", str(self.folder / "out.png"), "--longest", "9")
-        told = "the pictures take more than 20 bytes: --from and --to take a part of the trace"
-        hold_undone(self, done, told)
-        self.assertFalse((self.folder / "out.png").exists())
-
-    def test_a_trace_without_a_picture(self) -> None:
-        program = self.answering("ok", "ragged")
-        words = ("pictures", self.write("trace", BEGIN), self.folder / "all", "--vga", program)
-        hold_undone(self, run(*words), "no frame has a picture")
-        self.assertFalse((self.folder / "all").exists())
-
-    def test_both_kinds_of_moving_pictures(self) -> None:
-        # A fake of ffmpeg keeps its words, and makes a copy of what it is given.
-        last = 'for last; do :; done; echo "$@" > "$0.words"'
-        copy = 'while [ "$1" != -i ]; do shift; done; cp "$2" "$last"'
-        fake = self.program("bin/ffmpeg", f"#!/bin/sh\n{last}\n{copy}\n")
-        path = f"{self.folder / 'bin'}:{os.environ['PATH']}"
-        self.patch(mock.patch.dict(os.environ, PATH=path, TMPDIR=self.temporary()))
-        moving, video = self.folder / "out.png", self.folder / "out.WEBM"
-        words = ("--apng", str(moving), "--video", str(video), "--longest", "9")
-        status, output, said = self.pictures(*words)
-        told = [line.partition(": 3 pictures, ")[0] for line in output.decode().splitlines()]
-        self.assertEqual((status, told, said), (0, [str(moving), str(video)], ""))
-        self.assertEqual(video.read_bytes(), moving.read_bytes())
-        asked = Path(f"{fake}.words").read_text()
-        self.assertIn("-c:v libvpx-vp9 ", asked)
-        self.assertIn("fps=70,", asked)
-
-    def test_what_becomes_of_the_words(self) -> None:
-        # Two polls, a write half a second later, and a flip.
-        given = BEGIN + b"1 r p 3DA 0 1\n2 r p 3DA 0 1\n500002 w m A0000 1 1\n"
-        given += b"500003 w p 3D4 010C 2\n"
-        polls, put, flip = ["in 3DA", "in 3DA"], "put A0000 01", "outw 3D4 010C"
-        begin = "out 3C2 67"
-        hold(
-            self,
-            lambda *words: run("convert", "-", "-", "--text", *words, given=given)[1]
-            .decode()
-            .splitlines(),
-            (
-                ([begin, *polls, put, flip, "frame"],),
-                ("--polls", "first", [begin, polls[0], put, flip, "frame"]),
-                ("--frames", "0.5", [begin, *polls, "frame", put, flip, "frame"]),
-                ("--frames", "flip", [begin, *polls, put, "frame", flip, "frame"]),
-                ("--to", "4", "--polls", "first", [begin, polls[0], put, "frame"]),
-            ),
-        )
-
-    def test_calls_are_told_by_their_functions(self) -> None:
-        given = b"0 int E41 7 0 0\n1 int 1301 7 1 0 41\n2 int E42 7 0 0\n"
-        answers = report("E3 NoMode", "E3 NoMode", "E3 NoMode", SMALL)
-        done = run("check", self.write("trace", given), "-", given=answers)
-        lines = [
-            "4 steps, 3 refused, 0 reads answered, 0 differ",
-            "  refused         2 E3 NoMode: int AH 0E (first at step 1)",
-            "  refused         1 E3 NoMode: int AH 13 (first at step 2)",
-        ]
-        self.assertEqual((done[0], done[1].decode().splitlines()), (1, lines))
+        self.assertEqual([one.told for one in shown], ["0.000", "2.000", "4.000", "5.000"])

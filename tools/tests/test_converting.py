@@ -20,7 +20,6 @@ from zaklimot.commands.trace.step import ADVANCE, FRAME, IN, NAMES, OUT, OUTW, P
 
 from .tools import (
     EXAMPLES,
-    PROGRAM,
     Folder,
     begin,
     call,
@@ -66,7 +65,7 @@ class Passing(unittest.TestCase):
                     *at(0, 10, 20, 29, 30, 59, 60),
                     [849, 849],
                 ),
-                ("no clock that is known", *registers(0x6B, 0), *at(0, 1000), []),
+                ("a clock that is not there", *registers(0x6B, 0), *at(0, 1000), [25_175]),
                 ("time that runs back", *registers(0x67, 0), *at(2000, 1000, 2000), [28_322]),
                 (
                     "the clock before the pause",
@@ -113,9 +112,16 @@ class Passing(unittest.TestCase):
             TraceStep(PUT, 0xA0000, 1),
         )
         zero, other = TraceStep(OUTW, 0x3D4, 0x000C), TraceStep(OUTW, 0x3D4, 0x400E)
+
+        def flips(steps: list[TraceStep]) -> str:
+            """The steps by name, behind that which chooses one of the controller's places."""
+            misc = TraceStep(OUT, 0x3C2, 0x66 if steps[0].address == 0x3B4 else 0x67)
+            named = [NAMES[step.opcode] for step in with_flips([misc, *steps])]
+            return " ".join(named[1:])
+
         hold(
             self,
-            lambda steps: " ".join(NAMES[step.opcode] for step in with_flips(steps)),
+            flips,
             (
                 ([draw, high, low, draw], "put frame outw outw put"),
                 ([draw, low, draw, high], "put frame outw put frame outw"),
@@ -236,7 +242,7 @@ class Endings(Folder):
 
     def test_a_moment_of_a_trace_without_an_end(self) -> None:
         want_program()
-        words = ("text", "-", self.folder / "o.txt", "--cycle", "3", "--vga", PROGRAM)
+        words = ("text", "-", self.folder / "o.txt", "--cycle", "3")
         command = begin("zaklimot", "trace", *words, stdin=subprocess.PIPE)
         self.addCleanup(command.communicate)
         self.addCleanup(command.kill)

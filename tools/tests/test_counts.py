@@ -5,34 +5,16 @@ from __future__ import annotations
 import argparse
 import contextlib
 import io
-import json
 import unittest
 
-from zaklimot.commands.core.processes import Done
 from zaklimot.commands.core.progress import Progress
 from zaklimot_dev.testing import checking
-from zaklimot_dev.testing.checking import check_suite
 from zaklimot_dev.testing.running import Counts
 
 from .tools import hold, patched
 
 
 class Counted(unittest.TestCase):
-    def test_each_case_that_does_not_agree_is_printed(self) -> None:
-        answers = {"a": "agrees", "b": "skipped", "c": "differs", "d": "failed"}
-        cases = [{"name": a, "answer": answers[a], "reason": f"why {a}"} for a in answers]
-        told = {
-            "cases": dict.fromkeys(answers.values(), 1),
-            "rules": [{"cases": cases[:2]}, {"cases": []}, {"cases": cases[2:]}],
-        }
-        done = Done(2, json.dumps(told).encode(), b"")
-        output = io.StringIO()
-        with patched(checking, {"captured": lambda *_, **__: done}):
-            with contextlib.redirect_stdout(output):
-                check_suite("vga")
-        printed = "skipped  b: why b\ndiffers  c: why c\nfailed  d: why d\n"
-        self.assertEqual(output.getvalue(), printed)
-
     def test_cases_and_tests_are_added_up(self) -> None:
         both = Counts(1, 2, 3).beside(Counts(10, 20, 30))
         self.assertEqual(both, Counts(11, 22, 33))

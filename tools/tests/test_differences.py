@@ -108,6 +108,7 @@ class Reports(unittest.TestCase):
             return comparison.steps, comparison.skipped, comparison.answers, comparison.differing
 
         refusal = "E1 NotDecoded"
+        call, without_bios = "ax=0003 bx=0000 cx=0000 dx=0000", {"ends_at_call": True}
         bus, machine = {"has_refusals": False}, {"has_refusals": False, "is_machine": True}
         rows: Iterable[tuple[Iterable[str], Iterable[str], dict[str, bool], tuple[int, ...]]] = (
             # Answers are those that are expected, but for `ok`.
@@ -119,6 +120,10 @@ class Reports(unittest.TestCase):
             # A refusal that is answered as it is expected is compared.
             ((refusal, "FF"), (refusal, refusal), {}, (2, 0, 2, 1)),
             ((refusal, "FF"), (refusal, refusal), bus, (2, 1, 1, 0)),
+            # After a call that is skipped nothing is compared, but after another step.
+            (("skipped", "FF"), (call, "55"), without_bios, (2, 2, 0, 0)),
+            (("skipped", "FF"), (call, "55"), {}, (2, 1, 1, 1)),
+            (("skipped", "FF"), ("55", "55"), without_bios, (2, 1, 1, 1)),
             # A machine goes on from a state of its own.
             (("55", "FF", "00"), ("55", refusal, "01"), machine, (3, 2, 1, 0)),
             (("55",), ("55", refusal, "01"), machine, (3, 2, 1, 0)),

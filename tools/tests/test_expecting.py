@@ -15,18 +15,12 @@ from unittest import mock
 from xml.etree import ElementTree
 
 from zaklimot.format import Answer, count_in, lines_in, places_in, steps_in, words_in
-from zaklimot.commands.core.trouble import Trouble
 from zaklimot.commands.report.expecting import dumps_in, expected_in, is_worth_telling
 from zaklimot.commands.script.reading import text_of
 
 from .running import Fake, run
 from .tools import EXAMPLES, PROGRAM, hold, takes_long, want_program
 
-# What the program does first where two runs of it are to be under way at a time.
-TOGETHER = """import glob, os, time
-open(f"{sys.argv[0]}.{os.getpid()}", "w").close()
-while len(glob.glob(sys.argv[0] + ".*")) < 2: time.sleep(0.01)
-"""
 # What it does first where no two are to be: it fails while another runs.
 ALONE = (
     "import fcntl, time; own = open(sys.argv[0]); fcntl.flock(own, fcntl.LOCK_EX | fcntl.LOCK_NB);"
@@ -165,65 +159,6 @@ class Several(Fake):
         ):
             self.write(f"tests/{name}", text)
 
-    def test_each_script_of_a_folder(self) -> None:
-        self.begin_program(TOGETHER)
-        status, output, said = self.run_script("--jobs", "2", path=str(self.tests))
-        a, b = self.tests / "a.vga", self.tests / "more" / "b.vga"
-        self.assertEqual((status, said), (1, ""))
-        self.assertEqual(
-            output,
-            (
-                f"{a}: 1 step, 0 pictures, 1 of 1 answers as expected\n{b}:1: step 1: GET 0 answers"
-                f" E6, not 55\n{b}: 2 steps, 1 refused, 0 pictures, 0 of 1 answers as expected\n2"
-                " scripts, 1 differs\n"
-            ),
-        )
-        # What is as expected is not told where that is asked for.
-        quiet = self.run_script("--quiet", path=str(self.tests))[1]
-        self.assertEqual(quiet, "".join(output.splitlines(True)[1:]))
-        # One at a time, if no more are asked for; and each gets the options.
-        self.begin_program(ALONE)
-        output = self.run_script("--strict", path=str(self.tests))[1]
-        self.assertIn("step 2: IN 60 answers E1 NotDecoded", output)
-        self.begin_program(
-            "if sys.argv[1] == 'go' and sys.argv[3:] != ['--fonts', 'f', '--until', '1']:"
-            " sys.exit(9)\n"
-        )
-        output = self.run_script("--until", "1", "--fonts", "f", path=str(self.tests))[1]
-        self.assertEqual(output.count(": 5 steps, "), 2)
-
-    def test_what_is_told_of_a_script_alone_is_told_of_one_among_others(self) -> None:
-        # A text that is lost, and a refusal that isn't expected.
-        self.write("others/a.vga", b"VGAS\1\x0b")
-        self.write("others/b.vga", "in 60\n")
-        alone = [self.run_script("--quiet", path=f"others/{name}.vga") for name in "ab"]
-        self.assertIn("has written over the text\n", alone[0][2])
-        status, output, said = self.run_script(path="others")
-        told = "".join(one for _, one, _ in alone)
-        self.assertEqual((status, output), (0, f"{told}2 scripts, 0 differ\n"))
-        self.assertEqual(said, alone[0][2])
-        status, output, _ = self.run_script("--strict", path="others")
-        self.assertEqual(status, 1)
-        self.assertTrue(output.endswith("\n2 scripts, 1 differs\n"))
-        self.assertIn(" answers E1 NotDecoded, and no refusal is expected\n", output)
-
-    def test_json_is_made_where_it_is_wanted_alone(self) -> None:
-        # For each step it takes as long as all else.
-        wrong = mock.patch("zaklimot.commands.report.listing._told", side_effect=MemoryError)
-        with wrong:
-            status, output, said = self.run_script(path=str(self.tests))
-            self.assertEqual((status, said), (1, ""))
-            self.assertIn("2 scripts, 1 differs", output)
-            told = str(self.folder / "told.json")
-            self.assertEqual(self.run_script("--json", told, path=str(self.tests))[0], 2)
-
-    def test_a_script_that_was_not_even_begun_is_null_in_the_json(self) -> None:
-        told = self.folder / "told.json"
-        with mock.patch("zaklimot.commands.report.runs.tallied", side_effect=Trouble("no room")):
-            status, _, said = self.run_script("--json", str(told), path=str(self.tests))
-        self.assertEqual((status, said), (2, "zaklimot: no room\n" * 2))
-        self.assertEqual(json.loads(told.read_text()), [None, None])
-
     def test_no_script_is_written_over(self) -> None:
         script = str(self.tests / "a.vga")
         for words in (
@@ -244,32 +179,6 @@ class Several(Fake):
         (self.tests / "-c.vga").write_text("frame\n")
         status, output, _ = run("run", ".", "--vga", self.vga, prepare=lambda: os.chdir(self.tests))
         self.assertEqual((status, output.split(b"\n")[0]), (1, b"-c.vga: 1 step, 1 picture"))
-
-    def test_for_machines(self) -> None:
-        (self.tests / "c.vga").write_text("move <&>\n")
-        junit, told = self.folder / "junit.xml", self.folder / "told.json"
-        status, output, said = self.run_script(
-            "--junit", str(junit), "--json", str(told), path=str(self.tests)
-        )
-        self.assertEqual(
-            (status, output.splitlines()[-1]), (2, "3 scripts, 1 differs, 1 can't be run")
-        )
-        self.assertIn("c.vga:1: F7 BadLine(1): there is no step 'move'", said)
-        suite = ElementTree.parse(junit).getroot()
-        self.assertEqual(
-            [suite.get(name) for name in ("tests", "failures", "errors")], ["3", "1", "1"]
-        )
-        self.assertEqual(
-            [[part.tag for part in case] for case in suite], [[], ["error"], ["failure"]]
-        )
-        told_first, _, others = (suite[2][0].text or "").partition("\n")
-        self.assertIn("GET 0 answers E6, not 55", told_first)
-        self.assertEqual((suite[2][0].get("message"), bool(others)), (told_first, True))
-        scripts = json.loads(told.read_text())
-        self.assertEqual(
-            [(one["steps"], one["wrong"], bool(one["trouble"])) for one in scripts],
-            [(1, 0, False), (0, 0, True), (2, 1, False)],
-        )
 
     def test_text_goes_to_standard_error_where_machines_read_the_output(self) -> None:
         text = self.run_script(path=str(self.tests))[1]

@@ -11,13 +11,14 @@ import signal
 import sys
 import time
 import unittest
-from contextlib import ExitStack
+from contextlib import ExitStack, suppress
 from dataclasses import replace
 from functools import partial
 from pathlib import Path
-from typing import Callable
+from typing import Callable, Sequence
 from unittest import mock
 
+from zaklimot import Card, Refusal
 from zaklimot.format import Script, Step
 from zaklimot.commands.core.processes import started
 from zaklimot_dev.emulators.words import main as emulators
@@ -38,12 +39,20 @@ from zaklimot.commands.floppy.running import MACHINES
 from zaklimot.commands.floppy.table import Table, is_for_machine, reset_steps, table_for
 from zaklimot.commands.report.cases import read_cases
 from zaklimot.commands.report.places import SUITE
-from zaklimot.commands.explain.banks import Bank
-from zaklimot.commands.trace.state import State
-from zaklimot.commands.trace.step import GET, IN, OUT, PUT, TraceStep
 
 from .floppy import ANSWERS, KEYS, LETTERS, MARK, PAGE, ROW, Machine, cycles, line, machine
-from .tools import TOP, Folder, begin, call, ended, hold, hold_undone, refused, run_tool
+from .tools import (
+    TOP,
+    Folder,
+    begin,
+    call,
+    ended,
+    hold,
+    hold_undone,
+    refused,
+    run_tool,
+    want_library,
+)
 
 
 run = partial(run_tool, "zaklimot", "floppy")
@@ -84,6 +93,39 @@ REPORT = b"""1 ok
 """
 
 
+def fill(card: Card) -> None:
+    """Gives all memory and the registers other values than at power-on."""
+    card.int10(0x0012)
+    card.fill(0xA0000, 0x78, 0x10000)
+    card.get(0xA0000)
+    card.out(0x3C8, 0)
+    for _ in range(768):
+        card.out(0x3C9, 0x15)
+    card.out(0x3C6, 0x54)
+    card.out_word(0x3D4, 0x0011)
+    for port, count, others in (
+        (0x3D4, 25, {0x14: 0x15, 0x17: 0x53}),
+        (0x3CE, 9, {5: 0x55 & ~0x20}),
+    ):
+        for index in range(count):
+            card.out_word(port, others.get(index, 0x55) << 8 | index)
+    for index in range(21):
+        card.out(0x3C0, index)
+        card.out(0x3C0, 0x15)
+    card.out(0x3C0, 5)
+
+
+def take(card: Card, kind: str, numbers: Sequence[int]) -> None:
+    """Has a card take a cycle, which it may refuse."""
+    with suppress(Refusal):
+        if kind == "out":
+            card.out(*numbers)
+        elif kind == "put":
+            card.put(*numbers)
+        else:
+            (card.inp if kind == "in" else card.get)(numbers[0])
+
+
 class Interpreting(unittest.TestCase):
     def test_a_script_step_by_step(self) -> None:
         booted = machine(SCRIPT)
@@ -116,38 +158,26 @@ class Interpreting(unittest.TestCase):
         )
 
     def test_before_the_first_step_the_adapter_is_as_at_power_on(self) -> None:
-        opcodes = {"out": OUT, "in": IN, "put": PUT, "get": GET}
+        want_library()
         for script, last in (
             (b"frame\n", 0x00),
             (b"int ax=3\n", 0x03),
             (b"version 2\nrepeat 2\nint ax=3\nend\n", 0x03),
         ):
             found = machine(script).cycles
-            wanted = State()
-            state = State()
             self.assertEqual(found[0], ("int", 3, 0, 0, 0, 0, b""))
-            # Two registers are left otherwise; and before, all have another value.
-            wanted.misc, wanted.seq.registers[0] = last, 3
-            state.memory.words[:], state.dac.components[:] = [0x12345678] * 0x10000, [0x15] * 768
-            state.misc, state.dac.mask, state.memory.latches = 0x54, 0x54, 0xFEDCBA98
-            state.is_data = True
-            banks = [part for part in vars(state).values() if isinstance(part, Bank)]
-            for bank, index in (
-                (bank, index) for bank in banks for index in range(len(bank.registers))
-            ):
-                bank.index = index
-                bank.write(0x55)
-            for kind, *numbers in found[1 : found.index(("begin",))]:
-                state.take(TraceStep(opcodes[kind], *numbers))  # type: ignore[index, arg-type]
-            for name, part in vars(wanted).items():
-                if name == "_indexes":
-                    # It follows from miscellaneous output.
-                    continue
+            with Card() as wanted, Card() as card:
+                # Two registers are left otherwise; and before, all have another value.
+                wanted.out(0x3C2, last)
+                wanted.out_word(0x3C4, 0x0300)
+                fill(card)
+                for kind, *numbers in found[1 : found.index(("begin",))]:
+                    take(card, str(kind), [one for one in numbers if isinstance(one, int)])
+                for part in ("registers", "palette", "latches"):
+                    self.assertEqual(getattr(card, part)(), getattr(wanted, part)(), part)
                 # What differs isn't shown: the planes are long.
-                left = vars(state)[name]
-                self.assertTrue(
-                    getattr(left, "__dict__", left) == getattr(part, "__dict__", part), name
-                )
+                for plane in range(4):
+                    self.assertTrue(card.plane(plane) == wanted.plane(plane), plane)
 
     @unittest.skipUnless(shutil.which("nasm"), "nasm isn't installed")
     def test_the_bytes_kept_are_those_of_the_source(self) -> None:

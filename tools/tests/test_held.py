@@ -240,7 +240,9 @@ class Loaders(Made):
         for name, kind in (("toy.py", "crt-controller"), ("beam.py", "dac-mask")):
             text = (STEPS_EXAMPLES / name).read_text("utf-8")
             output = self.check_toy(text, kind, name)[1]
-            self.assertEqual(output.splitlines()[-1], f"{COUNT} elements: 0 agree, 0 differ")
+            self.assertEqual(
+                output.splitlines()[-1], f"{COUNT} elements: 0 agree, 0 differ, {COUNT} skipped"
+            )
 
     def test_the_toy_beam(self) -> None:
         text = (STEPS_EXAMPLES / "beam.py").read_text("utf-8")

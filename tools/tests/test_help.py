@@ -8,6 +8,7 @@ import os
 import re
 import shlex
 import unittest
+from functools import lru_cache
 from itertools import groupby
 from typing import Iterator
 
@@ -24,20 +25,7 @@ from zaklimot.commands.floppy.asked import EMULATORS
 from zaklimot.commands.floppy.running import MACHINES
 
 from .test_pages import pages
-from .tools import (
-    COMMAND,
-    MAIN,
-    MODULES,
-    NAMES,
-    PYTHON,
-    TOP,
-    call,
-    ended,
-    hold_undone,
-    hold_version,
-    main_of,
-    path_of,
-)
+from .tools import COMMAND, MAIN, MODULES, NAMES, PYTHON, TOP, ended, path_of
 
 
 # What may be loaded for a help: what all tools have in common, and modules of words alone.
@@ -73,11 +61,6 @@ def _ends(parser: argparse.ArgumentParser) -> Iterator[argparse.ArgumentParser]:
     yield parser
 
 
-def called(name: str) -> str:
-    """How a help calls a tool: the command of users as it is where it is installed."""
-    return name if name == COMMAND else f"tools/{name}"
-
-
 # The defaults of options that a help tells by other words; of no others a text names the value.
 TOLD_OTHERWISE = {
     "standard output": "-",
@@ -90,47 +73,6 @@ EXPLAINED = re.compile(r"([A-Z]{4,}\]?) +[a-z].*")
 
 
 class Words(unittest.TestCase):
-    def test_each_tool_is_there(self) -> None:
-        self.assertGreaterEqual(len(NAMES), 12)
-
-    def test_help_has_an_example_and_names_a_page(self) -> None:
-        for name in NAMES:
-            with self.subTest(name):
-                status, output, _ = call(main_of(name), "--help")
-                self.assertEqual(status, 0)
-                self.assertRegex(
-                    output,
-                    (
-                        rf"Example:\n  {called(name)}\b(?s:.*)\nExit status: 0 .*; 2 the work can't"
-                        r" be done\.\n"
-                    ),
-                )
-                page = re.search(r"^(\S+\.md) tells more\.$", output, re.M)
-                assert page is not None
-                self.assertTrue((TOP / page[1]).exists(), page[1])
-                self.assertIn(name, (TOP / page[1]).read_text("utf-8"))
-
-    def test_each_command_has_an_example_and_tells_its_words(self) -> None:
-        for name in NAMES:
-            told = call(main_of(name), "--help")[1]
-            self.assert_told(told)
-            commands = re.findall(r"^    ([a-z-]+)(?:  |$)", told, re.M)
-            self.assertEqual(bool(commands), " COMMAND ..." in told, told)
-            for command in commands:
-                with self.subTest(name, command=command):
-                    status, told, said = call(main_of(name), command, "--help")
-                    self.assertEqual((status, said), (0, ""))
-                    self.assertRegex(told, rf"\nExample:\n  {called(name)} {command} ")
-                    self.assert_told(told)
-
-    def assert_told(self, told: str) -> None:
-        """That a help has a text beside or below each word and each option that it lists."""
-        listed = told.partition("\n\n")[2].partition("\nExample:")[0]
-        given = re.findall(r"^  ([A-Z]+|-.*?)((?:  .*|)\n(?: {4}.*\n)?)", listed, re.M)
-        self.assertTrue(given, told)
-        for word, text in given:
-            self.assertTrue(text.strip(), word)
-
     def test_words_and_what_does_the_work_have_the_same_names(self) -> None:
         self.assertEqual(EMULATORS, tuple(MACHINES))
         self.assertEqual(recorded.SOFTWARE, tuple(traces.SOFTWARE))
@@ -138,11 +80,6 @@ class Words(unittest.TestCase):
         checks = {*library.ONCE, *library.EACH, *one_file.HOST, *one_file.checks_for(I386)}
         self.assertEqual(set(tested.CHECKS), {*checks, library.OF_FILE})
         self.assertEqual(binding_words.CHECKS, tuple(bindings.CHECKS))
-
-    def test_the_suite_tells_the_places_of_its_command(self) -> None:
-        told = call(main_of("zaklimot"), "suite", "--help")[1]
-        for place in ("{script}", "{fonts}", "{until}", "{name}"):
-            self.assertIn(place, told)
 
     def test_a_help_needs_none_of_what_does_the_work(self) -> None:
         told = "; print('loaded', *(name for name in sys.modules if name.startswith('zaklimot')))"
@@ -157,19 +94,6 @@ class Words(unittest.TestCase):
             for work in loaded[1:]:
                 self.assertRegex(work, LIGHT, name)
 
-    def test_each_command_has_a_job(self) -> None:
-        for name in NAMES:
-            for parser in parsers_of(name):
-                with self.subTest(parser.prog):
-                    self.assertTrue(callable(parser.get_default("job").found()))
-
-    def test_a_tool_with_commands_wants_one(self) -> None:
-        named = [name for name in NAMES if len(parsers_of(name)) > 1]
-        self.assertIn("zaklimot", named)
-        for name in named:
-            told = "(?s)^usage: .*: error: the following arguments are required: COMMAND\n$"
-            hold_undone(self, call(main_of(name)), told)
-
     def test_the_defaults_that_are_told_hold(self) -> None:
         held = 0
         for parser in (parser for name in NAMES for parser in parsers_of(name)):
@@ -183,11 +107,6 @@ class Words(unittest.TestCase):
                     self.assertEqual(str(action.default), wanted)
                     held += 1
         self.assertGreater(held, 40)
-
-    def test_the_version_of_the_header_and_words_that_mean_nothing(self) -> None:
-        for name in NAMES:
-            hold_version(self, name, call(main_of(name), "--version"))
-            hold_undone(self, call(main_of(name), "--no-such-word"), f"{name}: error: ")
 
 
 class Pages(unittest.TestCase):
@@ -248,14 +167,22 @@ def tools_in(line: str) -> Iterator[tuple[str, list[str]]]:
             yield name, command[1:end]
 
 
-def refusal_of(name: str, words: list[str]) -> str:
-    """What the parser of a tool says of words that it doesn't take; nothing of others."""
+@lru_cache(None)
+def made_parser(name: str, *behind: str) -> argparse.ArgumentParser:
+    """The parser of a tool, where these words stand behind `--`."""
     module = importlib.import_module(words_of(name))
     made = getattr(module, "parser", None) or getattr(module, "_parser")
+    parser: argparse.ArgumentParser = made(list(behind)) if behind else made()
+    return parser
+
+
+def refusal_of(name: str, words: list[str]) -> str:
+    """What the parser of a tool says of words that it doesn't take; nothing of others."""
     # What stands behind `--` is for another program.
     end = words.index("--") if "--" in words else len(words)
+    parser = made_parser(name, *words[end + 1 :])
     said = io.StringIO()
     quiet = contextlib.redirect_stdout(io.StringIO())
     with quiet, contextlib.redirect_stderr(said), contextlib.suppress(SystemExit):
-        (made(words[end + 1 :]) if words[end:] else made()).parse_args(words[:end])
+        parser.parse_args(words[:end])
     return said.getvalue()

@@ -9,13 +9,14 @@ import unittest
 import zlib
 from typing import Optional
 
-from zaklimot.format import Picture, parse_text
-from zaklimot.commands.explain.clocks import USUAL, Registers
+from zaklimot import Card
+from zaklimot.format import Picture
 from zaklimot.commands.images.png import MARK, Shape, chunk, write_png
 from zaklimot.commands.images.reading import image_of
+from zaklimot.commands.script.speed import USUAL, seconds_of, speed_of
 
 from .test_command import PICTURE, run
-from .tools import BLACK, RED, TOP, WHITE, Folder, hold, png_chunks, png_rows, ppm
+from .tools import BLACK, RED, TOP, WHITE, Folder, hold, png_chunks, png_rows, ppm, want_library
 
 
 GREY = b"\x15\x15\x15"
@@ -71,9 +72,9 @@ SPEEDS: list[tuple[str, Optional[tuple[int, int]]]] = [
         ),
         TEXT,
     ),
-    # Two clocks of four are there.
-    ("int ax=3;out 3C2 6F", None),
-    ("int ax=3;out 3C2 6B", None),
+    # Two clocks of four are there: each of the others is the first.
+    ("int ax=3;out 3C2 6F", (404_100, 25_175_000)),
+    ("int ax=3;out 3C2 6B", (404_100, 25_175_000)),
     # The same at the ports of monochrome.
     ("out 3C2 62;outw 3C4 0101;outw 3B4 5F00;outw 3B4 BF06;outw 3B4 1F07", WIDE),
     ("out 3C2 62;outw 3C4 0101;outw 3B4 5F00;outw 3B4 BF06;out 3B4 7;out 3B5 1F", WIDE),
@@ -88,8 +89,8 @@ SPEEDS: list[tuple[str, Optional[tuple[int, int]]]] = [
     ("int ax=3;outw 3C4 0101", (100 * 8 * 449, 28_322_000)),
     # Registers 0 to 7 alone are protected.
     (
-        ("out 3C2 67;outw 3D4 BF06;outw 3D4 1F07;outw 3D4 8E11;outw 3D4 0E11;outw" " 3D4 0000"),
-        (20_205, 28_322_000),
+        ("out 3C2 67;outw 3D4 BF06;outw 3D4 1F07;outw 3D4 8E11;outw 3D4 0E11;outw" " 3D4 4000"),
+        (278_829, 28_322_000),
     ),
 ]
 
@@ -286,13 +287,14 @@ class Animations(Folder):
         self.assertEqual(times, [(201, 100), (713, 50000), (713, 50000)])
 
     def test_times_by_registers(self) -> None:
+        want_library()
+
         def speed(steps: str) -> Optional[tuple[int, float]]:
-            registers = Registers()
-            for step in parse_text(steps.replace(";", "\n")).steps():
-                registers.take(step)
-            found = registers.speed()
-            self.assertAlmostEqual(registers.frame(), found[0] / found[1] if found else USUAL)
-            return found
+            with Card() as card:
+                card.run_on(steps.replace(";", "\n"))
+                found = speed_of(card)
+            self.assertAlmostEqual(seconds_of(found), found.dots / found.clock if found else USUAL)
+            return None if found is None else (found.dots, found.clock)
 
         hold(self, speed, SPEEDS)
 

@@ -1,21 +1,15 @@
 """The library for C: its header, its files and its page; the packages; that tests can fail."""
 
-import json
 import os
 import re
 import shutil
 import subprocess
-import sys
-import tarfile
 import tempfile
 import unittest
 from pathlib import Path
-from typing import Any
-from unittest import mock
 
 from zaklimot.commands import TOP
-from zaklimot.commands.core.processes import Done
-from zaklimot.commands.core.trouble import Trouble, Wrong
+from zaklimot.commands.core.trouble import Trouble
 from zaklimot.commands.core.version import (
     HEADER,
     Version,
@@ -24,16 +18,11 @@ from zaklimot.commands.core.version import (
     version_of,
     without_comments,
 )
-from zaklimot_dev.library import making
-from zaklimot_dev.library.making import AARCH64, MOVING, TARGETS, X86_64, Place, described
-from zaklimot_dev.library_tests import bindings, checks, compilers, javascript, portable
-from zaklimot_dev.library_tests.compilers import run
+from zaklimot_dev.library.making import described
+from zaklimot_dev.library_tests import checks
 from zaklimot_dev.release import command as release
-from zaklimot.commands.report.cases import read_cases
-from zaklimot.commands.report.places import SUITE
-from zaklimot.commands.script import crates
 
-from .tools import Folder, call, ended, hold, hold_undone, main_of, patched, refused
+from .tools import ended
 
 
 TEXT = HEADER.read_text("ascii")
@@ -73,99 +62,6 @@ class Header(unittest.TestCase):
     def test_each_struct_has_asserts(self) -> None:
         asserted = set(re.findall(r"TAKES\((zak_\w+), ", checks.LAYOUT.read_text("ascii")))
         self.assertEqual(asserted, {*STRUCT.findall(TEXT), "zak_status"})
-
-
-class Making(unittest.TestCase):
-    def test_what_packages_and_cmake_read(self) -> None:
-        package, cmake, told = described("/usr", "lib/x", Version(1, 2)).values()
-        for text, part in (
-            (package, "prefix=/usr\nlibdir=${prefix}/lib/x\n"),
-            (package, "Version: 1.2\n"),
-            (package, "\nkind=proved\n"),
-            (package, "video BIOS, proved\n"),
-            (
-                next(iter(described(MOVING, "lib/x", version()).values())),
-                "prefix=${pcfiledir}/../../..\n",
-            ),
-            (cmake, '"${CMAKE_CURRENT_LIST_DIR}/../../../.." ABSOLUTE'),
-            (told, 'set(PACKAGE_VERSION "1.2")'),
-            (
-                cmake,
-                (
-                    '"${_zaklimot_prefix}/lib/x/libzaklimot.so.1.2"\n    IMPORTED_SONAME'
-                    ' "libzaklimot.so.1"'
-                ),
-            ),
-        ):
-            self.assertIn(part, text)
-
-    def test_the_compiler_that_is_named(self) -> None:
-        # An empty name is none, and another processor has its own compiler.
-        for name, wanted in (("", "cc"), ("clang", "clang")):
-            with mock.patch.dict(os.environ, CC=name):
-                self.assertEqual(X86_64.compiler(), wanted)
-                self.assertEqual(AARCH64.compiler(), "aarch64-linux-gnu-gcc")
-
-    def test_crates_below_stand_lowest_first(self) -> None:
-        below = crates.below("vga_c")
-        for place, name in enumerate(below):
-            self.assertLessEqual(set(crates.below(name)), set(below[:place]), name)
-
-    def test_what_the_gate_has_not_left(self) -> None:
-        told = (
-            r"^nowhere/crates/vga_bits/out/rlib/vga_bits\.rlib: it is not there: run rt ci first.*"
-            r" crates/\*/out"
-        )
-        with mock.patch.object(making, "TOP", Path("nowhere")), self.assertRaisesRegex(
-            Trouble, told
-        ):
-            making.rlib("vga_bits")
-        with mock.patch.object(making, "run") as ran:
-            making.built_archive("llvm", X86_64, print)
-        ran.assert_called_once_with(["rt", "lib"], making.CRATE, print)
-
-
-class Made(Folder):
-    """What `install` takes of what `make` has made."""
-
-    def setUp(self) -> None:
-        super().setUp()
-        self.low = Path(self.write("crates/low/src/lib.rt", "low"))
-        self.write("crates/vga_c/src/lib.rt", "vga_c")
-        self.spec = Path(self.write("crates/vga_c/specs/Call.antt", "spec"))
-        self.write("crates.txt", "vga_c: low\n")
-        self.parts = [Path(self.write(name, name)) for name in ("one.a", "two.a")]
-        folder = self.folder / "crates" / "vga_c" / "out" / "made"
-        self.patch(
-            mock.patch.multiple(making, TOP=self.folder, FOLDER=folder, below=lambda _: ["low"])
-        )
-
-    def test_no_source_is_laid_over_itself(self) -> None:
-        header = Path(self.write("include/zaklimot.h", TEXT))
-        with mock.patch.multiple(making, HEADER=header, run=lambda *_: ""):
-            told = refused(
-                making.make_library, Path("a"), Path("b"), Place(str(self.folder)), making.MOVING
-            )
-        self.assertEqual(
-            (told, header.exists()),
-            (f"{header}: it is read as {header}, so it isn't written", True),
-        )
-
-    def test_the_same_sources_and_others(self) -> None:
-        self.assertIsNone(making.kept("llvm", X86_64))
-        kept = making.keep("llvm", X86_64, making.LibraryParts(*self.parts))
-        self.assertEqual([path.read_text() for path in kept], ["one.a", "two.a"])
-        self.assertIsNone(making.kept("rattle", X86_64))
-        # Another source, another archive, one source more, and crates that use others.
-        more, used = self.low.with_name("more.rt"), self.folder / "crates.txt"
-        for path in (self.low, self.spec, kept.crates, more, used):
-            self.assertEqual(making.kept("llvm", X86_64), kept)
-            before = path.read_text() if path.exists() else None
-            path.write_text("changed")
-            self.assertIsNone(making.kept("llvm", X86_64), path)
-            path.unlink() if before is None else path.write_text(before)
-        kept[0].unlink()
-        self.assertIsNone(making.kept("llvm", X86_64))
 
 
 class Page(unittest.TestCase):
@@ -212,225 +108,6 @@ class Page(unittest.TestCase):
             {name.partition("_show_")[0] for name in lacking},
             {"zak", "zak_version", "zak_frame_lines", "zak_peek", "zak_run_on", "zak_print"},
         )
-
-
-class Checks(Folder):
-    """That the library's tests can fail."""
-
-    def test_names_and_texts_that_differ(self) -> None:
-        told = f"soname: [libzaklimot.so.{version().major}] Flags: NOW GNU_RELRO"
-        with mock.patch.object(
-            checks, "run", lambda words: told if words[0] == "readelf" else "zak_open\n"
-        ):
-            built = compilers.Built("given", self.folder, self.folder / "crates.a")
-            self.assertRaisesRegex(
-                Wrong, "^libzaklimot.a: seen and not in", checks.check_names, built, self.folder
-            )
-        wanted = checks.LAYOUT.with_name("threads.txt").read_text("ascii")
-        checks.expect("threads", wanted)
-        self.assertRaises(Wrong, checks.expect, "threads", wanted.replace("alike", "differ", 1))
-
-    def test_cases_that_do_not_agree(self) -> None:
-        count = len(read_cases(str(SUITE)))
-        built = compilers.Built("given", Path("kit"), Path("crates.a"), AARCH64)
-        captured, running = mock.Mock(), mock.Mock()
-        self.patch(
-            mock.patch.object(checks, "captured", captured),
-            mock.patch.object(compilers, "run", running),
-        )
-        for way, skipped in (("suite", 1), ("sliced", 0)):
-            wanted = f"{count} cases: {count - skipped} agree{', 1 skipped' * skipped}"
-            captured.return_value = Done(0, f"a\n{wanted}\n".encode(), b"")
-            self.assertEqual(checks.check_cases(way, built, Path("made")), wanted)
-            captured.return_value = Done(
-                0, f"           n1: step 3\n{count} cases: 1 differ\n".encode(), b""
-            )
-            with self.assertRaisesRegex(Wrong, rf"^not `{wanted}`:\n +n1: step 3\n"):
-                checks.check_cases(way, built, Path("made"))
-        # The programs of another processor are built by its compiler, and run in the emulator.
-        self.assertEqual(running.call_args[0][0][0], "aarch64-linux-gnu-gcc")
-        front = (
-            "env ASAN_OPTIONS=detect_leaks=0 qemu-aarch64 -L /usr/aarch64-linux-gnu"
-            " made/harness-given "
-        )
-        self.assertIn(f"{front}{{script}} {{fonts}} {{until}}", captured.call_args_list[0][0][0])
-
-    def test_what_is_lacking_is_told_with_its_package(self) -> None:
-        self.patch(mock.patch.object(compilers, "_has_sanitizers", return_value=False))
-        with mock.patch("shutil.which", lambda name: None if name[-2:] in ("nm", "64") else name):
-            told = [line for target in TARGETS.values() for line in compilers.lacking(target)]
-        self.assertEqual(
-            told,
-            [
-                "nm: install the package binutils",
-                "the sanitizers of gcc: install the package libgcc-12-dev",
-                "the sanitizers of clang: install the package libclang-rt-dev",
-                "aarch64-linux-gnu-nm: install the package binutils-aarch64-linux-gnu",
-                "qemu-aarch64: install the package qemu-user",
-            ],
-        )
-
-
-class Bindings(Folder):
-    """That the tests of the packages can fail."""
-
-    def test_what_is_wrong(self) -> None:
-        self.assertEqual(run([sys.executable, "-c", "print(7)"]), "7\n")
-        with self.assertRaisesRegex(Wrong, "it ended with status 1\n(?s:.*)no such test"):
-            run([sys.executable, "-c", "raise SystemExit('no such test')"])
-        line = "test result: ok. {} passed; 0 failed; 0 ignored\n"
-        for check, right, wrong in (
-            (
-                bindings.check_python,
-                "skipped 'numpy is not here'\nRan 9 tests in 1s\n",
-                "skipped 'x'\nRan 9 tests in 1s",
-            ),
-            (bindings.check_rust, 5 * line.format(4), 5 * line.format(0)),
-        ):
-            said = mock.Mock(side_effect=[right, "", wrong, ""])
-            tested = mock.Mock(side_effect=[Done(0, b"", text.encode()) for text in (right, wrong)])
-            faked = {
-                "tested": tested,
-                "run": lambda *_, **given: "",
-                "_cargo": said,
-                "check_kind": mock.Mock(),
-                "_project": lambda *_: self.folder,
-            }
-            with self.subTest(right), patched(bindings, faked):
-                self.assertRegex(check(TOP, self.folder), "^(9|20) tests")
-                self.assertRaises(Wrong, check, TOP, self.folder)
-        self.assertEqual(
-            list(bindings.programs_of_page()), [f"program_{number}" for number in range(5)]
-        )
-
-    def test_what_is_wrong_in_node(self) -> None:
-        right = "\u2139 pass 9\n\u2139 fail 0\n\u2139 skipped {}\n\u2139 todo 0\n"
-        skipped = "\ufe63 a test (1ms) # {}\n"
-        lacking = "tsc is not here: install Debian's package node-typescript"
-        hold(
-            self,
-            self.told_by_node,
-            (
-                (right.format(0), "9 tests"),
-                (skipped.format(lacking) + right.format(1), f"9 tests; {lacking}"),
-            ),
-        )
-        for said in (
-            right.format(0).replace("pass 9", "pass 0"),
-            right.format(0).replace("fail 0", "fail 1"),
-            right.format(0).replace("todo 0", "todo 1"),
-            skipped.format("no library is found") + right.format(1),
-            right.format(1),
-            "",
-        ):
-            self.assertRaisesRegex(Wrong, "^the tests in node: ", self.told_by_node, said)
-
-    def told_by_node(self, said: str) -> str:
-        """What is told of the package for JavaScript where node says this of its tests."""
-        with patched(javascript, {"run_node": lambda *_: said}):
-            return javascript.check_javascript(TOP, TOP)
-
-    def test_libraries_and_their_kinds(self) -> None:
-        library = Path(self.write("kit/lib/libzaklimot.so", ""))
-        for kind, other in (("proved", "portable"), ("portable", "unknown")):
-            self.write("kit/lib/pkgconfig/zaklimot.pc", f"kind={kind}\n")
-            bindings.check_kind(self.folder / "kit", f"{kind.capitalize()}\n")
-            told = f"the library is {kind}, and the package tells that it is {other}$"
-            self.assertRaisesRegex(Wrong, told, bindings.check_kind, self.folder / "kit", other)
-        # The suites run over both libraries, and over a given one alone if that is portable.
-        kit = library.parents[1]
-        made = mock.Mock(return_value=TOP)
-        given = mock.Mock(library=kit)
-        with mock.patch.object(bindings, "portable_library", made):
-            self.assertEqual(bindings._libraries(given, TOP, mock.Mock()), {"portable": kit})
-            self.write("kit/lib/pkgconfig/zaklimot.pc", "kind=proved\n")
-            both = {"proved": kit, "portable": TOP}
-            self.assertEqual(bindings._libraries(given, TOP, mock.Mock()), both)
-
-    def test_words_that_cannot_be_meant_and_what_is_lacking(self) -> None:
-        with mock.patch.object(bindings, "lacking", lambda: []):
-            for words in (["--proof", "folder"], ["--library", "no-such-folder"]):
-                hold_undone(
-                    self, call(main_of("vga-bindings-tests"), *words), "^vga-bindings-tests: "
-                )
-            self.assertEqual(call(main_of("vga-bindings-tests"), "--ready"), (0, "", ""))
-        with mock.patch("shutil.which", lambda name: None if "cargo" in name else name):
-            told = (
-                "  cargo: install the package cargo\n  cargo-clippy: install the package"
-                " rust-clippy\n"
-            )
-            hold_undone(
-                self,
-                call(main_of("vga-bindings-tests"), "--ready"),
-                f"^vga-bindings-tests: this machine lacks\n{told}",
-            )
-
-
-class OneFile(Folder):
-    """That the checks of how others build the C file can fail."""
-
-    def test_options_that_differ(self) -> None:
-        def configured(line: str) -> Any:
-            def run(words: list[str], **_: object) -> str:
-                levels = {"Release": "-O3", "Debug": "", "-O1": "-O1"}
-                level = levels.get(words[-1].rpartition("=")[2], "-O2")
-                made = [{"file": "portable/zaklimot.c", "command": f"cc {level} {line}"}]
-                self.write("options/compile_commands.json", json.dumps(made))
-                return ""
-
-            return mock.patch.object(portable, "run", run)
-
-        with configured("-fPIC -std=c99 -c zaklimot.c"):
-            portable._check_options(self.folder)
-        for line in ("-fPIC -std=c99 -Og", "-std=c99", "-fPIC"):
-            with self.subTest(line), configured(line):
-                told = f"compiles cc .*{line}$"
-                self.assertRaisesRegex(Wrong, told, portable._check_options, self.folder)
-
-    def test_a_crate_without_a_file_and_another_library(self) -> None:
-        told, tested = (
-            f"portable {portable.number()}\n",
-            "test result: ok. {} passed; 0 failed; 0 ignored\n",
-        )
-        for cargo, without, said, count, wrong in (
-            ("1.95.0", "", told, 20, None),
-            ("1.65.0", "", told, 4, None),
-            ("1.95.0", "portable/zaklimot.c", told, 20, "has no file portable/zaklimot.c$"),
-            ("1.65.0", "portable/zaklimot.fnt", told, 4, "has no file portable/zaklimot.fnt$"),
-            ("1.95.0", "LICENSE", told, 20, "has no file LICENSE$"),
-            ("1.95.0", "examples/slices.rs", told, 20, "has no file examples/slices.rs$"),
-            ("1.95.0", "tests/header.rs", told, 20, "has no file tests/header.rs$"),
-            ("1.95.0", "", "proved 65541\n", 20, "writes proved 65541$"),
-            ("1.95.0", "", "portable 65540\n", 20, "writes portable 65540$"),
-            ("1.95.0", "", told, 19, "19 tests run"),
-            ("1.65.0", "", told, 3, "3 tests run"),
-        ):
-            folder = self.folder / f"crate-{len(list(self.folder.iterdir()))}"
-            answers = {
-                "--version": f"cargo {cargo} (x)\n",
-                "run": said,
-                "test": tested.format(count),
-            }
-            crates = [portable.SYS, portable.SAFE][: 2 if "1.95" in cargo else 1]
-            self.pack(folder, crates, without)
-            with self.subTest(wrong or cargo), mock.patch.object(
-                portable, "run", lambda words, **_: answers.get(words[1], "")
-            ):
-                if wrong is None:
-                    came = portable.check_crate(TOP, folder)
-                    self.assertIn(f"outside the repository: {count} tests", came)
-                    self.assertEqual("zaklimot is left out" in came, len(crates) == 1)
-                else:
-                    self.assertRaisesRegex(Wrong, wrong, portable.check_crate, TOP, folder)
-
-    def pack(self, folder: Path, crates: list[str], without: str) -> None:
-        """Lays packed crates whose files are empty, without one."""
-        package = folder / "packing" / "package"
-        package.mkdir(parents=True)
-        for crate in crates:
-            with tarfile.open(package / f"{crate}-1.6.0.crate", "w:gz") as archive:
-                for name in {*portable.HAVING, *portable.PACKED[crate]} - {without}:
-                    archive.addfile(tarfile.TarInfo(f"{crate}-1.6.0/{name}"))
 
 
 @unittest.skipUnless(shutil.which("rustc"), "rustc isn't installed")

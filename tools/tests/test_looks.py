@@ -6,12 +6,12 @@ from __future__ import annotations
 import unittest
 from pathlib import Path
 
-from zaklimot.commands.trace.cells import code_page, look_of, text_of
+from zaklimot.commands.trace.cells import code_page
 from zaklimot.commands.trace.finding import found_in
-from zaklimot.commands.trace.state import State
 
 from .test_seeing import Seen
-from .tools import PROGRAM, hold, hold_undone, png_rows, run_tool, takes_long
+from .tools import hold, hold_undone, png_rows, run_tool, takes_long, want_library
+from .tracing import text_screen
 
 
 # Mode 7, whose characters have the attributes 01, 81, 09 and 07; and mode 3 without blinking.
@@ -84,8 +84,11 @@ class Forms(Seen):
         self.assertEqual(page[at + 25 :], ["</pre>", "</body>", "</html>"])
 
     def test_which_characters_are_underlined(self) -> None:
-        state = State()
         underlined = {0x01, 0x09, 0x81, 0x89}
+        # A cell of each attribute; of 16 lines each.
+        shape = {0: 0x5F, 1: 0x4F, 6: 0xBF, 7: 0x1F, 9: 0x4F, 0x12: 0x8F, 0x13: 0x28, 0x17: 0xA3}
+        cells = [0] * 512
+        cells[::2] = [attribute << 8 | 0x41 for attribute in range(256)]
         for control, scan, wanted in (
             (0x02, 0x0F, underlined),
             (0x0A, 0x00, underlined),
@@ -93,9 +96,11 @@ class Forms(Seen):
             (0x02, 0x10, set()),
             (0x00, 0x0F, set()),
         ):
-            state.crtc.registers[0x09], state.crtc.registers[0x14] = 0x4F, scan
-            state.attr.registers[0x10] = control
-            found = {code for code in range(256) if look_of(state, code).is_underlined}
+            screen = text_screen({**shape, 0x14: scan, 0x18: 0xFF}, cells)
+            card = screen.follower.card
+            for value in (0x30, control):
+                card.out(0x3C0, value)
+            found = {code for code, look in screen.looks().items() if look.is_underlined}
             self.assertEqual(found, wanted, (control, scan))
 
     def test_a_bright_background_where_nothing_blinks(self) -> None:
@@ -194,20 +199,20 @@ class Moments(Seen):
 class Rows(unittest.TestCase):
     """Rows of text whose cells have the last digit of their row in memory."""
 
+    def setUp(self) -> None:
+        want_library()
+
     # Text of 80 columns and 25 rows of 16 lines, in a frame of 449 lines.
     SHAPE = {0: 0x5F, 1: 0x4F, 6: 0xBF, 7: 0x1F, 9: 0x4F, 0x12: 0x8F, 0x13: 0x28, 0x14: 0x1F}
     ADDRESSED = {0x17: 0xA3, 0x18: 0xFF}
 
     def shown(self, **changed: int) -> list[str]:
         """The rows that are shown with other CRT controller's registers: `r09` is register 09."""
-        state = State()
         numbers = {int(name[1:], 16): value for name, value in changed.items()}
-        for index, value in {**self.SHAPE, **self.ADDRESSED, **numbers}.items():
-            state.crtc.registers[index] = value
-        state.seq.registers[1] = 1
-        for cell in range(80 * 50):
-            state.memory.words[2 * cell] = 0x0730 + cell // 80 % 10
-        return list(text_of(state, code_page("cp437"), "trace"))
+        words = [0] * 80 * 100
+        words[::2] = [0x0730 + cell // 80 % 10 for cell in range(80 * 50)]
+        screen = text_screen({**self.SHAPE, **self.ADDRESSED, **numbers}, words)
+        return list(screen.text(code_page("cp437")))
 
     def test_which_rows_of_memory_are_shown(self) -> None:
         tens = "0123456789"
@@ -282,7 +287,7 @@ class Finding(Seen):
 class Files(Seen):
     def bytes_of(self, name: str, *words: str) -> bytes:
         """What a command writes to standard output."""
-        status, data, said = run_tool("zaklimot", "trace", name, *words, "--vga", PROGRAM)
+        status, data, said = run_tool("zaklimot", "trace", name, *words)
         self.assertEqual((status, said), (0, ""))
         return data
 

@@ -16,53 +16,6 @@ from .tools import BLACK, Folder, ppm, report, run_tool
 
 
 PICTURE = ppm(9, 1, BLACK * 9)
-# What is told of options, and the words in which they stand beside one that they contradict.
-CONTRADICTING = {
-    "--bless writes into the script, whole: it wants a file, and no --until": (
-        "run s.vga --bless --until 1",
-        "run s.vga --bless --until 0",
-        "run - --bless",
-    ),
-    "--bless lists its changes: without --json": (
-        "run s.vga --bless --json o",
-        "run s.vga --bless --json -",
-        "run s.vga --bless --json=",
-    ),
-    "a folder of scripts, and --junit, want none of --bless, --only, --pictures and --show": tuple(
-        f"run {script} {option}"
-        for script in ("scripts", "s.vga --junit o", "s.vga --junit=")
-        for option in (
-            *("--bless", "--only 1", "--only=", "--pictures p", "--pictures=", "--show"),
-        )
-    ),
-    "the pictures want a folder, or --apng a file": ("pictures r", "pictures r --ppm"),
-    "--apng writes one file, with neither a folder nor --ppm": (
-        "pictures r p --apng o",
-        "pictures r p --apng=",
-        "pictures r --apng o --ppm",
-        "pictures r - --apng -",
-    ),
-    "--ppm gives the bytes as they are, with neither --scale nor --aspect": (
-        "pictures r p --ppm --scale 2",
-        "pictures r p --ppm --aspect",
-    ),
-    "--expected tells the first step that differs: without --all, --picture and --step": tuple(
-        f"compare r e --expected {option}"
-        for option in ("--all", "--picture o", "--picture=", "--step 1")
-    ),
-    "--step is of one picture: without --all": ("compare r i --step 1 --all",),
-    "--within is of a picture: --step N": ("compare r s --within 1",),
-    "--still is for traces, and these are reports": ("compare r r --still 1",),
-    "the command is one word of the shell: 'true {script}'": ("suite true {script} --list l",),
-}
-# Options that look as if they did, and the exit status of the work that is done.
-TOGETHER = (
-    ("run s.vga --vga ./vga --quiet --only 1 --show --strict --jobs 2", 0),
-    ("run scripts --vga ./vga --strict --until 0 --quiet", 0),
-    ("page s.vga - --until 0", 0),
-    ("pictures r - --ppm --scale 1", 0),
-    ("compare r e --expected --scale 2", 0),
-)
 # The words of a number, the least that it may be, and the most.
 BOUNDS = (
     ("run s --until {}", 0, 4_294_967_295),
@@ -110,14 +63,6 @@ class Options(Folder):
         values = vars(parser().parse_args(words.split())).values()
         return [one for value in values for one in (value if isinstance(value, list) else [value])]
 
-    def test_those_that_contradict_others_are_told_before_any_work(self) -> None:
-        before = self.names()
-        for told, lines in CONTRADICTING.items():
-            for words in lines:
-                with self.subTest(words):
-                    self.assertEqual(self.done(words), (2, b"", f"zaklimot: {told}\n"))
-                    self.assertEqual(self.names(), before)
-
     def test_where_a_page_opens_a_script(self) -> None:
         # Before the first step, too, and by an address that a browser takes.
         for name, until, behind in (
@@ -137,21 +82,3 @@ class Options(Folder):
         self.assertEqual((status, said), (0, ""))
         pages = unquote(page_data(page.decode())["pages"])
         self.assertEqual((self.folder / pages).resolve(), DOCS)
-
-    def test_a_page_wants_a_font_file_of_its_size(self) -> None:
-        wrong = "zaklimot: {0}: the font file has {1} bytes, and 9,728 are right\n".format
-        for name, size, told in (
-            ("f", 9727, wrong("f", "9,727")),
-            ("f", 9729, wrong("f", "9,729")),
-            ("f", 0, wrong("f", "0")),
-            ("-", 9728, "zaklimot: --fonts wants a file\n"),
-        ):
-            self.write("f", bytes(size))
-            done = self.done(f"page s.vga o --fonts {name}")
-            self.assertEqual((done, (self.folder / "o").exists()), ((2, b"", told), False))
-
-    def test_those_that_only_look_so_do_their_work(self) -> None:
-        for words, status in TOGETHER:
-            with self.subTest(words):
-                done = self.done(words)
-                self.assertEqual((done[0], done[2]), (status, ""))

@@ -13,7 +13,7 @@ from typing import Optional
 
 from zaklimot.commands.core.streams import counted
 
-from .tools import BLACK, EXAMPLES, PROGRAM, RED, WHITE, Folder, hold, ppm, run_tool, want_program
+from .tools import BLACK, EXAMPLES, RED, WHITE, Folder, hold, ppm, run_tool, want_program
 
 
 # Commands with the place of their output, their status, what is told beside a file, and what is
@@ -34,9 +34,9 @@ OUTPUTS: tuple[tuple[str, int, str, Optional[str]], ...] = (
     ("compare one image --step 1 --picture {}", 1, HELD, None),
     ("floppy make script {}", 0, "", None),
     ("trace convert trace {}", 0, "2 cycles, 3 steps, 14 bytes: 2 out, 1 frame\n", None),
-    ("trace text typed --vga {vga} {}", 0, "", None),
-    ("trace pictures typed --vga {vga} --png {}", 0, "{}\n", ""),
-    ("trace pictures timed --vga {vga} --apng {}", 0, MOVING, None),
+    ("trace text typed {}", 0, "", None),
+    ("trace pictures typed --png {}", 0, "{}\n", ""),
+    ("trace pictures timed --apng {}", 0, MOVING, None),
 )
 # Where no picture is written although one is asked for, and why.
 UNWRITTEN = (
@@ -69,12 +69,12 @@ class Outputs(Folder):
         for words, status, beside, told in OUTPUTS:
             with self.subTest(words):
                 name = "o"
-                done = self.done(words.format(name, vga=PROGRAM))
+                done = self.done(words.format(name))
                 self.assertEqual(done, (status, beside.format(name).encode(), ""))
                 written = (self.folder / name).read_bytes()
                 (self.folder / name).unlink()
                 told = beside if told is None else told
-                done = self.done(words.format("-", vga=PROGRAM))
+                done = self.done(words.format("-"))
                 self.assertEqual(done, (status, written, told.format(NOWHERE)))
                 self.assertFalse((self.folder / "-").exists())
 

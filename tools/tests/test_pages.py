@@ -160,8 +160,8 @@ def files(*patterns: str) -> list[str]:
 
 
 def pages() -> list[Path]:
-    """The pages of the repository."""
-    return [TOP / name for name in files("*.md")]
+    """The pages of the repository; transcripts are run, by tests of their own."""
+    return [TOP / name for name in files("*.md", ":!tools/tests/transcripts")]
 
 
 def named_files(text: str) -> Iterator[tuple[str, str]]:

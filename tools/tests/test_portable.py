@@ -234,7 +234,22 @@ class Compiled(Cache):
         with mock.patch.dict(os.environ, given), mock.patch("shutil.which", here):
             for name in ("clang", "gcc", "cc"):
                 self.compiler(f"compilers/{name}")
-                self.assertEqual(portable._compiler(), [name])
+                self.assertEqual(portable._compilers()[0], [name])
+
+    def test_another_compiler_where_the_first_can_not(self) -> None:
+        folder = self.folder / "compilers"
+        self.program("compilers/cc", "#!/bin/sh\necho 'stdio.h: No such file' >&2\nexit 1\n")
+        given = {"CC": "", "PATH": f"{folder}{os.pathsep}/usr/bin{os.pathsep}/bin"}
+        here = partial(shutil.which, path=str(folder))
+        with mock.patch.dict(os.environ, given), mock.patch("shutil.which", here):
+            told = refused(portable_program)
+            self.assertIn("install Debian's package libc6-dev", told)
+            self.compiler("compilers/tcc")
+            with contextlib.redirect_stderr(io.StringIO()) as said:
+                self.assertTrue(Path(portable_program()).is_file())
+            # It is there the next time.
+            self.assertTrue(Path(portable_program()).is_file())
+        self.assertEqual(said.getvalue().count("compiles the program"), 2)
 
     def test_two_runs_at_once(self) -> None:
         begun = self.folder / "begun"

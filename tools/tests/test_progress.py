@@ -11,11 +11,7 @@ from typing import Callable, NamedTuple
 
 from zaklimot.commands.core import progress
 
-from .answers import given_files
 from .tools import PROGRAM, RED, Folder, ppm, report, run_tool, takes_long, want_program
-
-# An adapter that takes an element, and answers nothing of it.
-ADAPTER = "import sys\nfor line in sys.stdin:\n    print('{}', flush=True)\n"
 
 
 class Told(NamedTuple):
@@ -27,39 +23,22 @@ class Told(NamedTuple):
 
 
 NOTHING = Told(0, "", "")
-MADE = "a script is made: {:,} steps".format
-ONE = "a script is made: 1 step"
 CASES = "--only examples/first-path --only examples/until"
 OF_CASES = Told(
     3,
     "1 of 3 cases, 1 doesn't agree: examples/first-path",
     "3 of 3 cases, 2 don't agree: examples/until-dumps",
 )
-OF_FILES = Told(2, "1 of 2 files", "2 of 2 files")
-# Commands over the files of the recorded answers, and a few more.
+SCRIPT = "int ax=3\n" + "in 3CC ; = 67\n" * 18 + "frame\n"
+TRACE = "0 w p 3C2 67 1\n- int 0003 0000 0000 0000\n50 w m B8000 0741 2\n"
+# What commands tell, each of which counts something else.
 TELLING = {
-    "run s.vga": Told(22, "s.vga: step 1 of 20", "s.vga: step 20 of 20"),
-    "run s.vga --until 3 --quiet": Told(7, "s.vga: step 1 of 20", "s.vga: step 7 of 20"),
-    "run d": Told(3, "1 of 3 scripts: d/a.vga", "3 of 3 scripts: d/sub/c.vga"),
-    "pictures s.txt p": Told(2, "s.txt: 50 %", "s.txt: 99 %"),
-    "pictures s.txt --apng o": Told(2, "s.txt: 50 %", "s.txt: 99 %"),
+    "run s.vga": Told(21, "s.vga: step 1 of 20", "s.vga: step 20 of 20"),
+    "run d": Told(2, "1 of 2 scripts: d/a.vga", "2 of 2 scripts: d/b.vga"),
     "pictures end.txt p": Told(5, "end.txt: 18 %", "end.txt: 100 %"),
-    "compare s.txt nine.ppm --step 17": Told(1, "s.txt: 50 %", "s.txt: 50 %"),
     "compare long.txt long.txt": Told(4, "long.txt: 18 %", "long.txt: 80 %"),
     f"suite 'false # {{name}}' {CASES}": OF_CASES,
-    f"suite 'false # {{name}}' --json {CASES}": OF_CASES,
-    "steps check 'python3 adapter.py' dac.json off.json": Told(
-        40, "dac.json: 1 element, 1 differ", "off.json: 20 elements, 20 differ"
-    ),
-    "steps make made --only dac-reads": Told(
-        10_000, "dac-reads: 1 element", "dac-reads: 10000 elements"
-    ),
-    "trace text t.trace": Told(1301, ONE, MADE(1301)),
-    "trace pictures t.trace p": NOTHING,
-    "trace pictures t.trace --png o.png": Told(19, ONE, "report: 18 lines"),
-    "trace text t.trace --find A": Told(547, ONE, MADE(547)),
-    "trace text t.trace --find nothing": Told(547, ONE, MADE(547)),
-    "compare t.trace other.trace": Told(48, ONE, "report: 13 lines"),
+    "trace pictures t.trace p": Told(4, "step 1", "step 4"),
 }
 
 
@@ -92,11 +71,11 @@ class Terminal(Folder):
 
     def setUp(self) -> None:
         super().setUp()
-        for name, data in given_files("").items():
-            self.write(name, data)
+        for name in ("s.vga", "d/a.vga", "d/b.vga"):
+            self.write(name, SCRIPT)
+        self.write("t.trace", TRACE)
         self.write("long.txt", report(*["ok"] * 20_000))
         self.write("end.txt", report(*["ok"] * 20_000, ppm(2, 1, RED + RED)))
-        self.write("adapter.py", ADAPTER)
 
     def done(self, words: str, prepare: Callable[[], None]) -> str:
         """What a command writes in the folder, on either stream; what it makes is taken away

@@ -6,8 +6,9 @@ from typing import Callable, Iterator, Mapping, NamedTuple, Sequence
 
 from zaklimot.commands.explain import raster
 from zaklimot.commands.steps.dot_kinds import counters_of
-from zaklimot.commands.trace.cells import cells_of
-from zaklimot.commands.trace.state import State
+
+from .tools import want_library
+from .tracing import text_screen
 
 # How many registers the CRT controller, the sequencer and the graphics controller have.
 CRTC = 25
@@ -310,13 +311,15 @@ ROWS = (
 
 
 class Shown(unittest.TestCase):
+    def setUp(self) -> None:
+        want_library()
+
     def test_where_rows_of_text_are_fetched(self) -> None:
-        state = State()
         # The character and the attribute of a cell are its offset.
-        state.memory.words[:] = range(1 << 16)
+        words = range(1 << 16)
         for rows in ROWS:
-            state.crtc.registers[:] = filled(CRTC, {**SHAPE, **rows.named})
-            cells = cells_of(state, "state")
+            crtc = filled(CRTC, {**SHAPE, **rows.named})
+            cells = text_screen(dict(enumerate(crtc)), words).cells()
             found = [[cell.attribute << 8 | cell.character for cell in row] for row in cells]
             self.assertEqual(found, rows.wanted, rows.what)
 

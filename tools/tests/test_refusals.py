@@ -8,11 +8,11 @@ from pathlib import Path
 from typing import Callable, Optional, Sequence
 from unittest import mock
 
-from zaklimot.format import REFUSALS, Answer, Step, refusal_of
+import zaklimot
+from zaklimot.format import REFUSALS, Answer, refusal_of
 from zaklimot.commands import TOP
 from zaklimot.commands.core.trouble import Trouble
 from zaklimot.commands.explain import mistakes, reasons
-from zaklimot.commands.explain.clocks import MODES, Registers
 from zaklimot.commands.explain.faults import explained
 from zaklimot.commands.explain.mistakes import Mistake, marked_lines, mistake_in
 from zaklimot.commands.explain.reasons import Reasons, bytes_of
@@ -26,6 +26,8 @@ CASES = json.loads((HERE / "refusals.json").read_text("utf-8"))
 # The bad lines and texts with their reasons, which the page's tests read too: so both tell the
 # same.
 TABLE = json.loads((HERE / "mistakes.json").read_text("utf-8"))
+# The modes of the BIOS.
+MODES = (0x03, 0x07, 0x0D, 0x10, 0x12, 0x13)
 # A word of the table that stands for this many digits.
 LONG = "LONG"
 DIGITS = "0" * 131_072
@@ -468,8 +470,22 @@ class Faults(Folder):
             self.assertEqual(told, f"{path}: F8 ReadFault: {reason}")
 
 
+class OfProcessors(unittest.TestCase):
+    def test_a_line_of_a_processor_is_told(self) -> None:
+        want_library()
+        for line, is_told in (
+            ("in al, 3DA", 1),
+            ("IN AX,DX", 1),
+            ("out 3C2, al", 1),
+            ("in 3DX", 0),
+        ):
+            found = mistake_in(line.encode())
+            assert found is not None
+            self.assertEqual(found.reason == mistakes.NO_STEP, bool(is_told), line)
+
+
 class Modes(unittest.TestCase):
-    """The tools' tables of modes are those of docs/MODES.md."""
+    """The adapter's modes are those of docs/MODES.md."""
 
     PAGE = (TOP / "docs/MODES.md").read_text("utf-8")
     ROWS = {
@@ -477,14 +493,16 @@ class Modes(unittest.TestCase):
         for row in re.finditer(r"(?m)^\| ([^|]*) \|(.*)\|$", PAGE)
     }
 
+    def setUp(self) -> None:
+        want_library()
+
     def test_the_dots_of_a_frame(self) -> None:
         told = [int(cell.replace(",", "")) for cell in self.ROWS["dots of a frame"]]
         dots = []
         for mode in MODES:
-            registers = Registers()
-            registers.take(Step("int", (mode, 0, 0, 0)))
-            speed = registers.speed()
-            dots.append(speed and speed.dots)
+            with zaklimot.Card() as card:
+                card.int10(mode)
+                dots.append(card.clock().frame_dots)
         self.assertEqual(dots, told)
 
     def test_the_registers(self) -> None:
@@ -492,11 +510,14 @@ class Modes(unittest.TestCase):
         assert crtc is not None
         names = re.findall(r"(?m)^\| ([0-9A-F]+ [^|]*) \|", crtc[1])
         self.assertEqual(len(names), 25)
-        for column, mode in enumerate(MODES.values()):
+        for column, mode in enumerate(MODES):
+            with zaklimot.Card() as card:
+                card.int10(mode)
+                left = card.registers()
             told = bytes(int(self.ROWS[name][column], 16) for name in names)
-            self.assertEqual(mode.crtc, told)
+            self.assertEqual(left.crtc, told)
             misc, clocking, window = (
                 int(self.ROWS[name][column], 16)
                 for name in ("miscellaneous output", "1 clocking mode", "6 miscellaneous")
             )
-            self.assertEqual((mode.misc, mode.clocking, mode.map), (misc, clocking, window >> 2))
+            self.assertEqual((left.misc, left.seq[1], left.gfx[6]), (misc, clocking, window))

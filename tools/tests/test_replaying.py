@@ -12,9 +12,9 @@ from pathlib import Path
 from typing import Sequence
 from unittest import mock
 
+from zaklimot import Card, Registers
 from zaklimot.format import Picture
 from zaklimot.commands.images.reading import image_of
-from zaklimot.commands.script.words import FONTS
 from zaklimot.commands.trace import keeper as keeping, parts
 from zaklimot.commands.trace.beamed import Beamed
 from zaklimot.commands.trace.clocked import Clocked
@@ -22,16 +22,13 @@ from zaklimot.commands.trace.folding import Folding
 from zaklimot.commands.trace.keeper import Keeper
 from zaklimot.commands.trace.parts import Parts, parts_of
 from zaklimot.commands.trace.replaying import ALLOWED, PAGE, SEEN, Screen, whole_rows
-from zaklimot.commands.trace.state import State
 from zaklimot.commands.trace.step import ADVANCE, FRAME, IN, INT, OUT, OUTW, PUT, TraceStep
 from zaklimot.commands.trace.trace import SCREEN, Call, opened
 
 from .test_recording import picture_of
 from .tools import (
     BLACK,
-    PROGRAM as PROGRAM_TESTED,
     RED,
-    TRIED,
     TOP,
     WHITE,
     Folder,
@@ -40,16 +37,22 @@ from .tools import (
     png_rows,
     ppm,
     refused,
+    want_library,
     want_program,
 )
-from .tracing import BEGIN, qemu, registers, run
+from .tracing import BEGIN, drawing, qemu, registers, run
 
 
+# Registers, and whether a character of text memory blinks.
+Shown = tuple[Registers, bool]
 # What stands in the place of polls that are folded.
 TOLD = b"polls %d of 'vga-trace'\n"
 
 
 class Knowledge(unittest.TestCase):
+    def setUp(self) -> None:
+        want_library()
+
     def test_each_is_on_the_page(self) -> None:
         page = " ".join((TOP / PAGE).read_text("utf-8").split())
         for name in (*SEEN, *ALLOWED):
@@ -57,19 +60,24 @@ class Knowledge(unittest.TestCase):
 
     def state(
         self, index: int = 0x20, mask: int = 0xFF, word: int = 0, **banks: dict[int, int]
-    ) -> State:
-        """A state of text whose palette is shown, but for the attributes' index, the DAC mask, a
-        word, registers."""
-        state = State()
-        state.attr.index, state.dac.mask, state.memory.words[1] = index, mask, word
+    ) -> Shown:
+        """Registers of text whose palette is shown, but for the attributes' index, the DAC mask,
+        and those that are named; and whether a character blinks, by its word in memory."""
         usual = {
             "crtc": {0x07: 0x1F, 0x09: 0x4F, 0x12: 0x8F, 0x14: 0x1F, 0x18: 0xFF},
             "gfx": {6: 0x0E},
         }
+        with Card() as card:
+            registers = card.registers()
+        changed = {
+            name: bytearray(getattr(registers, name)) for name in ("crtc", "gfx", "seq", "attr")
+        }
         for name, values in (*usual.items(), *banks.items()):
             for number, value in values.items():
-                vars(state)[name].registers[number] = value
-        return state
+                changed[name][number] = value
+        for name, values_of in changed.items():
+            registers = registers._replace(**{name: bytes(values_of)})  # type: ignore[arg-type]
+        return registers._replace(attr_index=index, dac_mask=mask), word >= 0x8000
 
     def test_what_may_show_in_a_state(self) -> None:
         black, ninth, others = (
@@ -160,7 +168,7 @@ class Knowledge(unittest.TestCase):
             with self.subTest(clocking=clocking, mode=mode, size=image.size):
                 state = self.state(gfx={6: mode}, seq={1: clocking})
                 self.assertEqual(names(state, picture, image), wanted)
-        screen = Screen(self.state(seq={1: 8}), picture, image_of(other.ppm, "image"))
+        screen = Screen(*self.state(seq={1: 8}), picture, image_of(other.ppm, "image"))
         self.assertEqual(screen.names, found)
         told = list(screen.lines("screen"))
         self.assertIn("its cells have 16 dots, and not 9 doubled ones; 1 of 16 dots", told[0])
@@ -176,16 +184,16 @@ class Knowledge(unittest.TestCase):
             (2, 1, 8),
             (0x42, 0, 6),
         ):
-            part = whole_rows(self.state(crtc={9: row}, gfx={6: mode}), picture)
+            part = whole_rows(self.state(crtc={9: row}, gfx={6: mode})[0], picture)
             self.assertEqual((part.height, part is picture), (height, height == 8))
             self.assertEqual(
                 [part.row(y) for y in range(height)], [picture.row(y) for y in range(height)]
             )
 
 
-def names(state: State, picture: Picture, image: Picture) -> dict[str, list[str]]:
+def names(shown: Shown, picture: Picture, image: Picture) -> dict[str, list[str]]:
     """What is known of a screen that qemu shows so."""
-    return Screen(state, picture, image_of(image.ppm, "image")).names
+    return Screen(*shown, picture, image_of(image.ppm, "image")).names
 
 
 class RealTime(Folder):
@@ -371,10 +379,10 @@ class RealTime(Folder):
         edge = [TraceStep(IN, 0x3DA, value, time + value // 8) for value in (0, 8)]
         found = self.beamed(write(time), *edge, write(time + 1), write(time + 1 + 10 * line))
         self.assertAlmostEqual(found[-2][1], 10 * 900, delta=60)
-        # A retrace that begins below the frame begins in its last line.
+        # A retrace that begins below the frame tells nothing.
         edge = [TraceStep(IN, 0x3DA, value, 14_000 + value) for value in (0, 8)]
         found = self.beamed(TraceStep(OUTW, 0x3D4, 0xFF10, 0), *edge, write(14_008))
-        self.assertEqual(found[-2:], [(ADVANCE, 448 * 900), colour])
+        self.assertEqual(found[-2:], [(ADVANCE, int(14_008 * 28.322)), colour])
 
     def test_pictures_of_a_beam(self) -> None:
         want_program()
@@ -397,8 +405,7 @@ class RealTime(Folder):
         sizes = []
         for option in ((), ("--beam",)):
             folder = self.folder / f"pictures{len(option)}"
-            words = ("--vga", str(PROGRAM_TESTED), *option)
-            status, _, said = run("pictures", trace, folder, *words)
+            status, _, said = run("pictures", trace, folder, *option)
             self.assertEqual(status, 0, said)
             sizes.append(max(len({*png_rows(path.read_bytes())[2]}) for path in folder.iterdir()))
         self.assertEqual(sizes, [1, 3])
@@ -408,9 +415,9 @@ class RealTime(Folder):
             "trace", BEGIN + b"20000 w m A0000 1 1\n40000 w m A0000 2 1\n5040000 w m A0000 3 1\n"
         )
         small, large = ppm(2, 1, RED + WHITE), ppm(4, 3, BLACK * 12)
-        program = self.answering("ok", small, "ok", small, "ok", large, "ok", large)
         moving, folder = self.folder / "moving.png", self.folder / "pictures"
-        status, out, said = run("pictures", trace, folder, "--apng", moving, "--vga", program)
+        with drawing(small, small, large, large):
+            status, out, said = run("pictures", trace, folder, "--apng", moving)
         told = "1 silence cut to 1 s, and 4.0 s left out so"
         self.assertEqual((status, said), (0, f"zaklimot: warning: {trace}: {told}\n"))
         lines = out.decode().splitlines()
@@ -429,15 +436,10 @@ class RealTime(Folder):
         rows = zlib.decompress(data[data.index(b"IDAT") + 4 :][:length])
         self.assertEqual(rows, 3 * (b"\0" + 2 * b"\xff\0\0" + 6 * b"\xff"))
 
-    def test_a_program_that_fails(self) -> None:
-        trace = self.write("trace", BEGIN)
-        for begun, told in (
-            ("#!/bin/sh\n", f"it runs no script with {FONTS}: oh"),
-            (TRIED, "it ended with status 3: oh"),
-        ):
-            program = self.program("vga", f"{begun}echo oh >&2\nexit 3\n")
-            status, _, said = run("pictures", trace, self.folder / "pictures", "--vga", program)
-            self.assertEqual((status, said), (2, f"zaklimot: {program}: {told}\n"))
+    def test_a_font_file_that_is_none(self) -> None:
+        fonts = self.write("fonts", b"x")
+        words = ("pictures", self.write("trace", BEGIN), self.folder / "pictures", "--fonts", fonts)
+        hold_undone(self, run(*words), f"^zaklimot: {fonts}: ")
 
 
 class Keeping(Folder):

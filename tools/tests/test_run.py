@@ -4,9 +4,7 @@ from __future__ import annotations
 
 import cProfile
 import contextlib
-import json
 import os
-import re
 import resource
 import sys
 import unittest
@@ -23,124 +21,9 @@ from zaklimot.commands.report.listing import Blessing, Row, chosen
 from zaklimot.commands.words import parser
 
 from .running import TEXT, Fake, run
-from .tools import TOP, ended, hold, hold_refused
+from .tools import hold
 
-# Texts, the words of a run, its status, and what is told.
-DECODED = "               No part of the adapter decodes port 0{}.\n".format
 NAMES = "out, outw, in, inw, put, putw, get, getw, advance, frame, int, show, version, repeat, end"
-RUNS: list[tuple[str, str, int, list[str]]] = [
-    ("show dac 0 ; = misc 63\n", "", 1, [" answers misc 67, not misc 63: misc: 67, not 63\n"]),
-    (
-        "get 0 ; = 55\nget 1 ; = *\nframe ; = picture 9x2\n",
-        "--only differs",
-        1,
-        [
-            "     1      1  GET 0               E6   not 55\n",
-            "\n3 steps, 1 picture, 1 of 3 answers as expected\n",
-            (
-                "t.vga:1: step 1: GET 0 answers E6, not 55\nt.vga:3: step 3: FRAME answers picture"
-                " 9x1 "
-            ),
-        ],
-    ),
-    (
-        "out 3C2 1 ; = ok\nout 3C2 1 ; = E1\nout 3C2 1\n",
-        "",
-        1,
-        [
-            "   ok\n     2",
-            "   ok   not E1\n     3",
-            "OUT 3C2 1 answers ok, not E1\n3 steps, 0 pictures, 1 of 2 answers as expected\n",
-        ],
-    ),
-    # Refusals are told once each, counted, and expected by their names.
-    (
-        "in 60\nin 60\nin 61 ; = E1\n",
-        "",
-        1,
-        [
-            f"     1      1  IN 60               E1 NotDecoded\n{DECODED(60)}",
-            "     2      2  IN 60               E1 NotDecoded\n     3      3  IN 61 ",
-            f"   not E1\n{DECODED(61)}",
-            " not E1: E1 is a byte that is read here; the refusal is written E1 NotDecoded\n",
-            "\n3 steps, 3 refused, 0 pictures, 0 of 1 answers as expected\n",
-        ],
-    ),
-    (
-        "in 60\nin 61\nin 61\nin 60\n",
-        "",
-        0,
-        [
-            "     3      3  IN 61               E1 NotDecoded\n"
-            "     4      4  IN 60               E1 NotDecoded\n4 steps, 4 refused, 0 pictures\n"
-        ],
-    ),
-    ("in 60\nin 60\n", "--json -", 0, [f'"why": "{DECODED(60).strip()}"}},\n']),
-    ("in 60\nin 61 ; = E1 NotDecoded\n", "--quiet", 0, []),
-    (
-        "in 60\n",
-        "--quiet --strict",
-        1,
-        ["t.vga:1: step 1: IN 60 answers E1 NotDecoded, and no refusal is expected\n"],
-    ),
-    # Registers of a call, in any order and in letters of either kind.
-    ("int ax=3 ; = DX=0000 AX=0003\n", "", 0, ["1 of 1 answers as expected\n"]),
-    # Answers that are expected of no step.
-    *(
-        (text, "", 2, [f"t.vga:{line}: no step stands on this line, so nothing answers "])
-        for text, line in (
-            ("frame\n; = 55\n", 2),
-            ("version 2 ; = 1\n", 1),
-            ("frame ; = *\n\t; =ok\n", 2),
-        )
-    ),
-    ("; ======\n; = =\nout 3C2 1\n", "", 0, []),
-    # A stopped run shows the state.
-    *(
-        (
-            text,
-            "--until 2",
-            0,
-            [
-                f"            {1 + steps}  show regs           look\n",
-                f"            {4 + steps}  show bda            look\n{4 + steps} steps",
-            ],
-        )
-        for text, steps in ((TEXT, 2), ("; no step\n", 0))
-    ),
-    # The text is lost where its file has the bytes.
-    (
-        "VGAS\1\x0b",
-        "",
-        0,
-        [
-            (
-                "zaklimot: t.vga: the file contains bytes, but has the name of a text. "
-                "If you named it twice, `vga asm` has written over the text\n"
-            ),
-        ],
-    ),
-    *(
-        (
-            "VGAS\1\x0b",
-            words,
-            2,
-            ["zaklimot: t.vga: a script of bytes has no comments for answers\n"],
-        )
-        for words in ("--bless", "--bless --quiet")
-    ),
-    (
-        "frame\nmove 1\n",
-        "",
-        2,
-        [
-            (
-                "zaklimot: t.vga:2: F7 BadLine(2): there is no step 'move'; the steps are"
-                f" {NAMES}\n  move 1\n  ^^^^\n"
-            ),
-        ],
-    ),
-]
 
 
 @unittest.skipIf(sys.platform == "win32", "a script is a program on POSIX")
@@ -170,27 +53,6 @@ class Listings(Fake):
         status, output, said = self.run_script(path=path)
         self.assertEqual((status, len(output.splitlines())), (2, 4))
         self.assertIn("s.bin: the program prints none of its steps, so there is no telling", said)
-
-    def test_lines_steps_and_answers_in_columns(self) -> None:
-        digest = "picture 9x1 " + "cc3cef99328e895f73a6088030faaab2"
-        self.assertEqual(
-            self.run_script(),
-            (
-                0,
-                (
-                    "  line   step  step as understood  answer\n"
-                    "     3      1  OUT 3C2 1           ok\n"
-                    "     4      2  GET A0000           E6\n"
-                    "     5      3  IN 3DA              E1 NotDecoded\n"
-                    f"     6      4  FRAME               {digest}\n"
-                    "     7      5  INT AX=3            ax=0003 bx=0000 cx=0000 dx=0000\n"
-                    "     8      6  SHOW REGS           a\n"
-                    "                                   b\n"
-                    "6 steps, 1 refused, 1 picture, 4 of 4 answers as expected\n"
-                ),
-                "",
-            ),
-        )
 
     def test_words_that_fit_in_the_column_stand_whole(self) -> None:
         # The column is as wide as its heading, or as the longest words; but at most 47.
@@ -228,57 +90,6 @@ class Listings(Fake):
                 (b"s\xff", "--fonts", b"f\xff", listed),
             ),
         )
-
-    def shown(self, *words: str) -> list[str]:
-        """The numbers of the steps that are shown."""
-        return re.findall(r"(?m)^ +\d+ +(\d+)  ", self.run_script(*words)[1])
-
-    def test_some_steps_alone(self) -> None:
-        hold(
-            self,
-            partial(self.shown, "--only"),
-            [
-                ("1-2,5", ["1", "2", "5"]),
-                ("refused", ["3"]),
-                ("read", ["2"]),
-                ("pictures", ["4"]),
-                ("differs", []),
-                ("dumps", ["6"]),
-                ("refused,1", ["1", "3"]),
-            ],
-        )
-        message = (
-            "zaklimot: --only has numbers of steps, as 10-20, and refused, read, pictures, dumps,"
-            " differs, and not 'x'\n"
-        )
-        self.assertEqual(self.run_script("--only", "x"), (2, "", message))
-        hold_refused(
-            self,
-            chosen,
-            ((text, "^--only ") for text in ("", "1-", "a-b", "1,,2", "0", "5-2", "0-3")),
-        )
-
-    def test_pictures_as_files_and_as_blocks(self) -> None:
-        shown = self.run_script("--pictures", "p", "--show")[1]
-        self.assertIn("  p/0004.png\n\x1b[38;2;255;0;0;48;2;255;0;0m\u2580", shown)
-        # They are also written where no step is listed.
-        self.run_script("--pictures", "quiet", "--quiet")
-        for name in ("p", "quiet"):
-            self.assertTrue((self.folder / name / "0004.png").read_bytes().startswith(b"\x89PNG"))
-
-    def test_what_is_told(self) -> None:
-        for text, words, wanted, parts in RUNS:
-            with self.subTest(text, words=words):
-                status, output, said = self.run_text(text, *words.split())
-                self.assertEqual(status, wanted, said)
-                for part in parts:
-                    self.assertIn(part, output + said)
-        status, _, said = self.run_script(path="-", given=b"move\n")
-        self.assertEqual(
-            (status, said.partition(": there")[0]),
-            (2, "zaklimot: standard input:1: F7 BadLine(1)"),
-        )
-        self.assertEqual(self.run_script(path=self.write("s.bin", b"VGAS\1\x0b"))[2], "")
 
     def test_a_thousand_reasons_are_told_once_and_others_each_time(self) -> None:
         ports = (*range(0x400, 0x7E9), 0x400, 0x7E8)
@@ -341,31 +152,6 @@ class Listings(Fake):
         status, output, _ = self.run_text(text, "--bless", *words)
         return status, output, (self.folder / "t.vga").read_bytes().decode()
 
-    def test_answers_are_written_in(self) -> None:
-        text = (
-            "out 3C2 1\nget 0\r\nget 1 ; = 55 ; the byte\nget 2 ; = *\nint ax=3\nin 3DA  ;"
-            " \u00e9\nint\n"
-        )
-        whole = (
-            "out 3C2 1\nget 0 ; = E6\r\nget 1 ; = E6 ; the byte\nget 2 ; = *\nint ax=3\n"
-            "in 3DA  ; = E1 NotDecoded ; \u00e9\nint ; = ax=0003 bx=0000 cx=0000 dx=0000\n"
-        )
-        # What is met stays as it is.
-        met = (
-            "frame ; = picture 9x1\nin 3DA ; = e1 notdecoded\nshow regs ; = 2 lines...\nint ; ="
-            " ax=0003\n"
-        )
-        told = "t.vga:2: nothing -> E6\nt.vga:3: 55 -> E6\nt.vga:6: nothing -> E1 NotDecoded\n"
-        told += "t.vga:7: nothing -> ax=0003 bx=0000 cx=0000 dx=0000\nt.vga: 4 answers written\n"
-        hold(
-            self,
-            self.blessed,
-            (
-                (text, (0, told, whole)),
-                *((good, (0, "t.vga: 0 answers written\n", good)) for good in (whole, met)),
-            ),
-        )
-
     def test_a_step_that_answers_otherwise_when_it_is_repeated(self) -> None:
         blessing = Blessing(b"version 2\nrepeat 2\nget 0\nend\n")
         for answer in ("55", "66"):
@@ -414,34 +200,6 @@ class Listings(Fake):
         self.assertEqual(self.blessed(text)[::2], (0, whole))
         self.assertEqual(self.blessed(whole)[1:], ("t.vga: 0 answers written\n", whole))
 
-    def test_as_json(self) -> None:
-        status, output, said = self.run_text(
-            "get 0 ; = 55\nframe\nin 60\nshow regs\n", "--json", "-"
-        )
-        told = json.loads(output)
-        self.assertEqual(
-            (status, told["script"], told["steps"], told["refused"], told["wrong"]),
-            (1, "t.vga", 4, 1, 1),
-        )
-        get, frame, read, dump = told["answers"]
-        self.assertEqual((get["answer"], get["expected"], get["met"]), ("E6", "55", False))
-        self.assertEqual(
-            frame["picture"], {"size": "9x1", "md5": "cc3cef99328e895f73a6088030faaab2"}
-        )
-        self.assertEqual(
-            (read["refused"], read["why"]),
-            ("E1 NotDecoded", "No part of the adapter decodes port 060."),
-        )
-        self.assertEqual(dump["lines"], ["a", "b"])
-        self.assertTrue(
-            said.endswith("4 steps, 1 refused, 1 picture, 0 of 1 answers as expected\n")
-        )
-        status, output, _ = self.run_text("move\n", "--json", "-")
-        told = json.loads(output)
-        self.assertEqual(
-            (status, told["answers"], "F7 BadLine(1)" in told["trouble"]), (2, [], True)
-        )
-
 
 class Calls(Fake):
     """What a step takes doesn't grow unseen: its calls are counted, since seconds are never
@@ -473,33 +231,3 @@ class Calls(Fake):
             few, many = self.calls(line * 100), self.calls(line * 600)
             with self.subTest(line, calls=(many - few) / 500):
                 self.assertTrue(10 < (many - few) / 500 < self.MOST)
-
-
-class Benchmarks(unittest.TestCase):
-    def test_what_is_missing_is_told_before_they_begin(self) -> None:
-        nothing = "/dev/null/none"
-        hold(
-            self,
-            lambda name: ended(sys.executable, TOP / "bench" / name, nothing),
-            (
-                (
-                    "bench.py",
-                    (
-                        2,
-                        "",
-                        (
-                            f"bench.py: {nothing}: there is no such program; README.md tells how to"
-                            " build it\n"
-                        ),
-                    ),
-                ),
-                (
-                    "library.py",
-                    (
-                        2,
-                        "",
-                        f"library.py: {nothing} has no library: tools/vga-library make {nothing}\n",
-                    ),
-                ),
-            ),
-        )

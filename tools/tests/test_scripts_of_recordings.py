@@ -11,13 +11,12 @@ from unittest import mock
 
 from zaklimot.format import Block, Step, decode, encoded
 from zaklimot.commands.core.progress import Progress
+from zaklimot.commands.script.program import BuiltProgram
 from zaklimot.commands.script.words import FONTS
 from zaklimot.commands.trace import converting, replaying
 from zaklimot.commands.trace.note import Note, kept_parts, note_of, told_of_beam
 from zaklimot.commands.trace.parts import Parts
-from zaklimot.commands.trace.rebuilding import steps_behind
 from zaklimot.commands.trace.replaying import Replay, replay
-from zaklimot.commands.trace.step import ADVANCE, GET, IN, OUT, TraceStep
 
 from .tools import PROGRAM, Folder, hold, refused, run_program, want_program
 from .tracing import qemu
@@ -62,7 +61,7 @@ class Long(Folder):
         with mock.patch.object(converting, "MOST_BYTES", free + of_trace), mock.patch.object(
             replaying, "REST_OF_FRAME", OF_FRAME
         ):
-            return replay(self.recorded, str(PROGRAM), str(FONTS), Progress(), is_own)
+            return replay(self.recorded, BuiltProgram(str(PROGRAM)), str(FONTS), Progress(), is_own)
 
     def hold_figures(self, done: Replay) -> None:
         """Holds the figures that are told to the scripts."""
@@ -101,7 +100,7 @@ class OfThePage(Long):
             for path in self.scripts():
                 path.unlink()
             self.keep(traced(dots))
-            whole = replay(self.recorded, str(PROGRAM), str(FONTS), Progress(), True)
+            whole = replay(self.recorded, BuiltProgram(str(PROGRAM)), str(FONTS), Progress(), True)
             self.assertEqual(len(self.scripts()), 1)
             parts = self.replayed(True)
             *ended, _ = self.scripts()
@@ -115,26 +114,6 @@ class OfThePage(Long):
             # An advance that is cut in two is two steps.
             more = parts.checked.steps - whole.checked.steps
             self.assertEqual(more, 0 if dots == LINE else len(ended))
-
-    def refusal(self, *more: TraceStep) -> str:
-        """What is told where these steps stand behind those that rebuild the state."""
-
-        def wrong(script: bytes, fonts: str) -> list[TraceStep]:
-            return [*steps_behind(script, fonts), *more]
-
-        with mock.patch.object(replaying, "steps_behind", wrong):
-            return refused(self.replayed, True)
-
-    def test_a_state_that_is_not_rebuilt(self) -> None:
-        told = f"{self.recorded}/script-2.bin: the state before its first cycle isn't rebuilt"
-        # Another place of the beam; the DAC's mask, an index, and the latches are others.
-        for more in (
-            TraceStep(ADVANCE, 1),
-            TraceStep(OUT, 0x3C6, 0x12),
-            TraceStep(OUT, 0x3C4, 0x07),
-            TraceStep(GET, 0xA0000),
-        ):
-            self.assertEqual(self.refusal(more), told, more)
 
     def test_no_file_is_left_but_those_of_the_recording(self) -> None:
         self.replayed(True)
@@ -166,17 +145,6 @@ class OfQemu(Long):
         told = refused(self.replayed, False, 400)
         wanted = "no step has room beside those that rebuild the state"
         self.assertEqual(told, f"{self.recorded}/report-2.txt: {wanted}")
-
-    def test_steps_that_are_refused_rebuild_no_state(self) -> None:
-        def wrong(script: bytes, fonts: str) -> list[TraceStep]:
-            return [*steps_behind(script, fonts), TraceStep(IN, 0x3C7)]
-
-        with mock.patch.object(replaying, "steps_behind", wrong):
-            told = refused(self.replayed, False, 3000).splitlines()
-        front = f"{self.recorded}/report-2.txt: the state before its first cycle isn't rebuilt:"
-        self.assertEqual(told[0], front)
-        self.assertRegex(told[1], r"^[0-9,]+ steps, 1 refused, [0-9,]+ reads? answered, 0 differ$")
-        self.assertIn("E2 NotInProfile: in port 3C7 (first at step", told[2])
 
 
 class Notes(Folder):

@@ -1,9 +1,8 @@
 """What traces show at any moment: text, colours, glyphs, pages and planes; where a text is found,
-and how two traces differ. The program tells all of it."""
+and how two traces differ. A card tells all of it."""
 
 from __future__ import annotations
 
-import io
 import re
 import shutil
 import subprocess
@@ -11,29 +10,15 @@ import unittest
 from pathlib import Path
 from unittest import mock
 
-from zaklimot.format import HEADERS, Answer, Step
 from zaklimot.commands.core.progress import Progress
 from zaklimot.commands.script.words import FONTS
-from zaklimot.commands.trace import walking
-from zaklimot.commands.trace.cells import cells_of, code_page, entry_of, look_of, text_of
+from zaklimot.commands.trace.cells import TextScreen, code_page
 from zaklimot.commands.trace.finding import Finder
-from zaklimot.commands.trace.rebuilding import steps_behind
-from zaklimot.commands.trace.step import IN, TraceStep
-from zaklimot.commands.trace.told import Told, state_asked
+from zaklimot.commands.trace.following import followed
+from zaklimot.commands.trace.step import TraceStep
 from zaklimot.commands.trace.trace import SCREEN, Call
-from zaklimot.commands.trace.walking import Item, Question, Walk
 
-from .tools import (
-    EXAMPLES,
-    PROGRAM,
-    Folder,
-    hold_refused,
-    hold_undone,
-    png_rows,
-    refused,
-    run_tool,
-    want_program,
-)
+from .tools import EXAMPLES, Folder, hold_refused, hold_undone, png_rows, run_tool, want_library
 from .tracing import qemu
 
 
@@ -63,13 +48,13 @@ class Seen(Folder):
 
     def setUp(self) -> None:
         super().setUp()
-        want_program()
+        want_library()
         self.calls = self.write("calls.trace", CALLS)
 
     def run_command(self, name: str, *words: str | Path) -> tuple[int, str, str]:
         """Exit status, output as text, and what is said."""
         command = (name,) if name == "compare" else ("trace", name)
-        status, output, said = run_tool("zaklimot", *command, *words, "--vga", PROGRAM)
+        status, output, said = run_tool("zaklimot", *command, *words)
         return status, output.decode(), said
 
     def done(self, name: str, *words: str | Path) -> str:
@@ -140,8 +125,10 @@ class Text(Seen):
         page = self.done("text", self.calls, "--at", "1.5", "--form", "html")
         self.assertIn('<span style="color:#ffff55;background:#0000aa">ABC</span>', page)
         self.assertIn('<span class="blinks" style="color:#ff5555;background:#0000aa">', page)
-        # The entry 07 is what the call has made it.
-        self.assertIn("color:#ff5528;background:#000000", page)
+        # The entry 07 is what a call has made it.
+        entry = b"0 int 3 0 0 0\n1 int 1010 7 150A 3F00\n2 int 0E41 7 0 0\n"
+        page = self.done("text", self.write("entry", entry), "--form", "html")
+        self.assertIn('<span style="color:#ff5528;background:#000000">A', page)
 
     def test_html_has_no_tags_of_the_text(self) -> None:
         trace = self.write("tags", b"0 int 3 0 0 0\n1 int 1301 7 9 0 3C623E26223C2F703E\n")
@@ -182,153 +169,33 @@ class Text(Seen):
             )
 
 
-class Walked(Folder):
-    """Parts of a walk rebuild where it was."""
-
-    def setUp(self) -> None:
-        super().setUp()
-        want_program()
-        self.walk = Walk(str(PROGRAM), str(FONTS), Progress())
-
-    def told(self, *steps: TraceStep) -> Told:
-        """What is told after steps."""
-        return self.walk.state(steps)
-
-    def hold_rebuilt(self, *steps: TraceStep) -> None:
-        """Holds what is told after steps to what is told after those that rebuild the state."""
-        script = HEADERS[1] + b"".join(step.data() for step in steps)
-        one, other = self.told(*steps), self.told(*steps_behind(script, str(FONTS)))
-        self.assertEqual(one.shown, other.shown)
-        self.assertEqual(one.state.memory.words, other.state.memory.words)
-        self.assertEqual(vars(one.state.dac), vars(other.state.dac))
-
-    def test_a_state_is_rebuilt_with_the_data_of_the_bios(self) -> None:
-        # Text of 25 rows on the third page, of 50 rows, in one colour, with a hidden cursor;
-        # graphics; no mode at all.
-        for calls in (
-            [(0x0003, 0, 0, 0), (0x0502, 0, 0, 0), (0x0200, 0x0200, 0, 0x0507)],
-            [(0x0003, 0, 0, 0), (0x1112, 0, 0, 0), (0x0200, 0, 0, 0x2A10), (0x0100, 0, 0x0307, 0)],
-            [(0x0007, 0, 0, 0), (0x1111, 0, 0, 0), (0x0E41, 7, 0, 0)],
-            [(0x0003, 0, 0, 0), (0x0100, 0, 0x2607, 0), (0x0200, 0x0700, 0, 0x0102)],
-            [(0x0013, 0, 0, 0), (0x0C2A, 0, 17, 100), (0x0200, 0, 0, 0x0102)],
-            [(0x0010, 0, 0, 0), (0x0501, 0, 0, 0), (0x0200, 0x0100, 0, 0x0304)],
-            [(0x0013, 0, 0, 0), (0x0083, 0, 0, 0)],
-        ):
-            with self.subTest(calls):
-                self.hold_rebuilt(*(call(*one) for one in calls), TraceStep(11), TraceStep(11))
-        ports = [TraceStep(1, 0x3C2, 0x63), TraceStep(2, 0x3C4, 0x0604), TraceStep(5, 0xA0007, 9)]
-        self.hold_rebuilt(*ports)
-
-    def test_a_walk_of_several_scripts_answers_as_one(self) -> None:
-        items: list[Item[int]] = [call(0x0003, 0, 0, 0)]
-        for number in range(60):
-            items.append(call(0x0E41 + number % 26, 7, 0, 0))
-            items.append(TraceStep(5, 0xB8800 + number, number))
-            items.append(Question(Step("show bda", ()), number))
-            items.append(Question(Step("show plane", (0, 0, 64)), -number))
-        whole = [(tag, one.lines) for tag, one in self.walk.answers(items)]
-        self.assertEqual(len(whole), 120)
-        with mock.patch.object(walking, "MOST_PART_STEPS", 100):
-            parts = [(tag, one.lines) for tag, one in self.walk.answers(items)]
-        self.assertEqual(parts, whole)
-
-    def test_a_script_is_full_by_its_bytes_and_by_its_steps(self) -> None:
-        # A read has three bytes; what rebuilds a state doesn't count.
-        reads = [TraceStep(IN, 0x3DA)] * 4
-        for name, most, wanted in (("MOST_PART", 7, 3), ("MOST_PART_STEPS", 2, 2)):
-            part = walking.ScriptPart[int](io.BytesIO())
-            with mock.patch.object(walking, name, most):
-                part.begin(reads)
-                count = 0
-                while not part.is_full and count < len(reads):
-                    part.add(reads[count])
-                    count += 1
-            self.assertEqual(count, wanted, name)
-
-    def test_answers_that_tell_nothing(self) -> None:
-        told = Told()
-        for lines in (["nonsense"], ["misc 67"], ["entry 01: 0"], ["plane 9 zz: 00"], ["beam x"]):
-            answer = Answer(7, 9, lines[0], tuple(lines[1:]))
-            self.assertRegex(refused(told.take, answer), "report:9: step 7 shows nothing of the")
-
-    def test_a_program_that_ends_early(self) -> None:
-        program = self.answering("ok")
-        walk = Walk(program, str(FONTS), Progress())
-        self.assertRegex(
-            refused(list, walk.answers([TraceStep(1, 0x3C2, 0), TraceStep(11)])), "after 1 step:"
-        )
-
-    def test_a_program_that_fails_at_its_end(self) -> None:
-        told = self.report("told", "ok", "ok")
-        program = self.program("vga", f"#!/bin/sh\ncat {told}\necho oh >&2\nexit 3\n")
-        walk = Walk(program, str(FONTS), Progress())
-        steps = [TraceStep(1, 0x3C2, 0), TraceStep(1, 0x3C2, 1)]
-        wanted = f"{program}: it ended with status 3 after 2 steps: "
-        self.assertTrue(refused(list, walk.answers(steps)).startswith(wanted))
-
-    def test_cells_are_those_that_the_program_shows(self) -> None:
+class Cells(unittest.TestCase):
+    def test_cells_are_those_that_the_card_shows(self) -> None:
         for calls in (
             [(0x0003, 0, 0, 0), (0x0502, 0, 0, 0), (0x0942, 0x0217, 5, 0)],
             [(0x0003, 0, 0, 0), (0x1112, 0, 0, 0), (0x0200, 0, 0, 0x3100), (0x0942, 0x17, 5, 0)],
             [(0x0007, 0, 0, 0), (0x1111, 0, 0, 0), (0x0942, 0x17, 5, 0)],
         ):
-            asked: list[Item[str]] = [call(*one) for one in calls]
-            asked += [Question(one, "state") for one in state_asked()]
-            asked.append(Question(Step("show cells", ()), "cells"))
-            told = Told()
-            shown: list[str] = []
-            for tag, answer in self.walk.answers(asked):
-                if tag == "cells":
-                    shown = [line.partition(": ")[2] for line in answer.lines]
-                else:
-                    told.take(answer)
-            rows = [
-                " ".join(f"{one.character:02X}{one.attribute:02X}" for one in row)
-                for row in cells_of(told.state, "trace")
-            ]
-            self.assertEqual(rows, shown)
+            follower = followed([call(*one) for one in calls], str(FONTS), Progress())
+            cells = TextScreen(follower, "trace").cells()
+            self.assertEqual([[*row] for row in cells], follower.card.cells())
 
     def test_rows_of_a_split_screen(self) -> None:
         # Below line 159 memory begins anew, at an odd offset of rows.
-        state = self.told(
+        steps = (
             call(0x0003, 0, 0, 0),
             *(TraceStep(6, 0xB8000 + 2 * at, 0x700 | 0x30 + at // 80 % 10) for at in range(2000)),
-            TraceStep(2, 0x3D4, 0x000C),
-            TraceStep(2, 0x3D4, 0xA00D),
-            TraceStep(2, 0x3D4, 0x0F07),
-            TraceStep(2, 0x3D4, 0x9F18),
-            TraceStep(2, 0x3D4, 0x0F09),
-        ).state
-        rows = text_of(state, code_page("cp437"), "trace")
+            *(TraceStep(2, 0x3D4, word) for word in (0x000C, 0xA00D, 0x0F07, 0x9F18, 0x0F09)),
+        )
+        screen = TextScreen(followed(steps, str(FONTS), Progress()), "trace")
+        rows = screen.text(code_page("cp437"))
         self.assertEqual([row[0] for row in rows][:13], list("2345678901012"))
-
-    def test_how_attributes_look(self) -> None:
-        state = self.told(call(0x0007, 0, 0, 0)).state
-        self.assertTrue(look_of(state, 0x01).is_underlined)
-        self.assertFalse(look_of(state, 0x07).is_underlined)
-        state.seq.registers[1] |= 0x20
-        self.assertEqual(look_of(state, 0x17).back, (0, 0, 0))
-
-    def test_entries_of_colours(self) -> None:
-        # Entry 5 of the palette is 3A, plane 3 is off, the border is 2C, and select has 9.
-        state = self.told(call(0x0003, 0, 0, 0)).state
-        for index, value in ((5, 0x3A), (0x11, 0x2C), (0x12, 0x07), (0x14, 0x09)):
-            state.attr.registers[index] = value
-        for control, index, mask, wanted in (
-            # Bits 7 and 6 come from select.
-            (0x00, 0x20, 0xFF, 0xBA),
-            # So do bits 5 and 4, if mode control says so.
-            (0x80, 0x20, 0xFF, 0x9A),
-            (0x80, 0x20, 0x0F, 0x0A),
-            # While the palette is written, all dots are the border's.
-            (0x00, 0x00, 0xFF, 0x2C),
-            (0x80, 0x1F, 0xF0, 0x20),
-        ):
-            state.attr.registers[0x10] = control
-            state.attr.index = index
-            state.dac.mask = mask
-            for bits in (0x05, 0x0D):
-                self.assertEqual(entry_of(state, bits), wanted, (control, index, mask))
+        # The card goes on, and is asked anew.
+        for step in (call(0x0003, 0, 0, 0), call(0x0E41, 7, 0, 0)):
+            screen.follower.take(step)
+        self.assertEqual(
+            [row.strip() for row in screen.text(code_page("cp437"))], ["A"] + 24 * [""]
+        )
 
 
 class Files(Seen):

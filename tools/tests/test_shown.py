@@ -10,18 +10,17 @@ from unittest import mock
 from xml.etree import ElementTree
 
 from zaklimot.format import Answer, Picture
-from zaklimot.commands.report.expecting import is_as_expected
-from zaklimot.commands.report.listing import Row, chosen
+from zaklimot.commands.report.expecting import is_as_expected, why_never
+from zaklimot.commands.report.listing import Row
 from zaklimot.commands.report.modes import StepList
 from zaklimot.commands.words import parser
 
 from .running import Fake
-from .tools import PROGRAM, RED, hold, hold_refused, png_rows, run_tool, want_program
+from .tools import PROGRAM, RED, hold, png_rows, run_tool, want_program
 
 # What the fake program's frame answers, and its dump of two lines.
 DIGEST = "cc3cef99328e895f73a6088030faaab2"
 LINES_DIGEST = "dd8c6a395b5dd36c56d23275028f526c"
-WHY = "No part of the adapter decodes port 060."
 DOTS = Picture.of_dots(9, 1, RED * 4 + bytes(15))
 CALLED = "ax=0003 bx=0000 cx=0D0E dx=0000"
 # Answers with the words of their steps, what is expected, and whether it is met.
@@ -75,7 +74,36 @@ EXPECTED = (
 )
 
 
+# What is expected of a step, and how it is told that no answer meets it.
+NEVER = (
+    ("5", "in 3CC", "no answer of `in` is `5`: it answers a byte of two digits, as `= 05`,"),
+    ("05", "inw 3CC", "no answer of `inw` is `05`: it answers a word of four digits,"),
+    ("done", "out 3C2 67", "no answer of `out` is `done`: it answers `ok`"),
+    ("pictur 9x1", "frame", "no answer of `frame` is `pictur 9x1`: it answers a picture,"),
+    ("ax=3", "int ax=3", "no answer of `int` is `ax=3`: it answers registers,"),
+    ("E99", "out 3C2 67", "there is no refusal E99: they are E1 to E13"),
+    ("E1 NoMode", "in 60", "there is no refusal `E1 NoMode`: E1 is NotDecoded"),
+    ("E5", "out 3C2 67", "`out` is never refused as E5 BadMode: it is refused as E1 NotDecoded,"),
+)
+
+
 class Expectations(unittest.TestCase):
+    def test_what_no_answer_meets(self) -> None:
+        for expected, words, told in NEVER:
+            self.assertEqual(why_never(expected, words)[: len(told)], told)
+        for expected, words in (
+            *(("05", "in 3CC"), ("E1", "in 3CC"), ("e1 notdecoded", "IN 60"), ("*", "in 60")),
+            *(
+                ("OK", "out 3C2 67"),
+                ("E2", "out 3C2 67"),
+                ("E12", "advance 9"),
+                ("ragged", "frame"),
+            ),
+            *(("picture 9x1", "frame"), ("picture 9...", "frame"), ("cx=0001 ax=0003", "int ax=3")),
+            *(("ax=0003 bx=0000 cx=0000 dx=0000 block 01", "int"), ("a", "show regs"), ("5", "no")),
+        ):
+            self.assertEqual(why_never(expected, words), "", expected)
+
     def test_which_answers_meet_them(self) -> None:
         hold(self, is_as_expected, EXPECTED)
 
@@ -157,36 +185,6 @@ class Together(Fake):
         steps = [f"     {at}      {at}  out 3C2 1           ok\n" for at in (1, 2)]
         self.assertEqual(told[1:], ["cleared", steps[0], "cleared", steps[1]])
 
-    def test_which_steps_only_shows(self) -> None:
-        hold(
-            self,
-            lambda kinds, words, *answer: chosen(kinds)(Row(Answer(7, 9, *answer), words)),
-            (
-                # By the numbers of steps, both ends among them.
-                *(
-                    (kinds, "out 3C2 1", "ok", is_shown)
-                    for kinds, is_shown in (
-                        ("7", True),
-                        ("9", False),
-                        ("6-7", True),
-                        ("7-8", True),
-                        ("1-6,8-9", False),
-                        ("8,refused,007", True),
-                    )
-                ),
-                ("refused", "show cells", "E3 NoMode", True),
-                ("refused", "in 3DA", "E1", False),
-                ("dumps", "SHOW latches", "latches 00 55 00 00", True),
-                ("dumps", "show cells", "E3 NoMode", False),
-                ("dumps", "get 0", "55", False),
-                ("read", "inw 3DA", "1E41", True),
-                ("read", "in 3DA", "E1 NotDecoded", False),
-                ("pictures", "frame", "picture 37", (), DOTS, True),
-                ("pictures", "frame", "E3 NoMode", False),
-                ("pictures,differs", "get 0", "55", False),
-            ),
-        )
-
     def test_a_dump_that_stands_below_is_met_or_any_will_do(self) -> None:
         def is_wrong(expected: str, *dump: str) -> bool:
             return Row(Answer(1, 1, "a", ("b",)), "show regs", 1, expected, dump).is_wrong
@@ -205,55 +203,11 @@ class Together(Fake):
             ),
         )
 
-    def test_a_dump_that_differs_is_told_behind_its_last_line(self) -> None:
-        lines = self.run_text("show regs ; = 3 lines\n")[1].splitlines()
-        column = len("     1      1  SHOW REGS           ")
-        self.assertEqual(
-            lines[1:3], ["     1      1  SHOW REGS           a", f"{'':{column}}b   not 3 lines"]
-        )
-
-    def test_answers_that_differ_are_told_in_their_order(self) -> None:
-        text = "get 0 ; = 55\n" * 11
-        told = [line.split(":")[1] for line in self.run_text(text, "--quiet")[1].splitlines()]
-        self.assertEqual(told[:11], [f"{number}" for number in range(1, 12)])
-
     def test_an_expected_answer_of_no_words_is_met_by_none(self) -> None:
         status, output, said = self.run_text("get 0 ; =\n", "--quiet")
         told = "t.vga:1: step 1: GET 0 answers E6, not \n"
         told += "t.vga: 1 step, 0 pictures, 0 of 1 answers as expected\n"
         self.assertEqual((status, output, said), (1, told, ""))
-
-    def test_what_only_can_not_mean(self) -> None:
-        hold_refused(
-            self,
-            chosen,
-            (
-                ("0", "^--only 0: steps are counted from 1$"),
-                ("0-3", "^--only 0-3: steps are counted from 1$"),
-                ("5-2", r"^--only 5-2: the range ends before it begins: 2-5\?$"),
-                ("1,reads", "^--only has numbers .*, and not 'reads'$"),
-            ),
-        )
-
-    def test_steps_of_bytes_and_their_lines(self) -> None:
-        want_program()
-        data = bytes.fromhex("5647415301 01C20363 03CC03 0B")
-        words = ("run", self.write("s.bin", data), "--vga", PROGRAM)
-        self.assertEqual(
-            run_tool("zaklimot", *words),
-            (
-                0,
-                (
-                    b"  line   step  step as understood  answer\n"
-                    b"     1      1  out 3C2 63          ok\n"
-                    b"     2      2  in 3CC              63\n"
-                    b"     3      3  frame               picture 9x1 "
-                    b"8f4a7758d19428aa7b8da8bb8fc0c974\n"
-                    b"3 steps, 1 picture\n"
-                ),
-                "",
-            ),
-        )
 
 
 @unittest.skipIf(sys.platform == "win32", "a script is a program on POSIX")
@@ -318,31 +272,6 @@ class Written(Fake):
 
 
 JSON_TEXT = "; One.\nget 0 ; = 55\nframe ; = *\nin 60\nshow regs\nout 3C2 1\n"
-JSON_STEPS: list[dict[str, object]] = [
-    {"line": 2, "words": "GET 0", "answer": "E6", "expected": "55", "met": False},
-    {
-        "line": 3,
-        "words": "FRAME",
-        "answer": f"picture 9x1 {DIGEST}",
-        "picture": {"size": "9x1", "md5": DIGEST},
-        "expected": "*",
-        "met": True,
-    },
-    {
-        "line": 4,
-        "words": "IN 60",
-        "answer": "E1 NotDecoded",
-        "refused": "E1 NotDecoded",
-        "why": WHY,
-    },
-    {
-        "line": 5,
-        "words": "SHOW REGS",
-        "answer": f"2 lines {LINES_DIGEST}",
-        "lines": ["a", "b"],
-    },
-    {"line": 6, "words": "OUT 3C2 1", "answer": "ok"},
-]
 
 
 @unittest.skipIf(sys.platform == "win32", "a script is a program on POSIX")
@@ -354,56 +283,13 @@ class Machines(Fake):
         told: dict[str, object] = json.loads(self.run_text(JSON_TEXT, "--json", "-", *words)[1])
         return told
 
-    def test_each_member_of_the_json(self) -> None:
-        steps: list[dict[str, object]] = [
-            {"step": at, **step} for at, step in enumerate(JSON_STEPS, 1)
-        ]
-        counts = {"steps": 5, "refused": 1, "pictures": 1, "expected": 2, "met": 1}
-        head: dict[str, object] = {"script": "t.vga", "answers": steps}
-        whole = dict(head, **counts, wrong=1, trouble=None)
-        self.assertEqual(self.told(), whole)
-        # A refusal that isn't expected is one that differs.
-        steps[2] = dict(steps[2], expected=None, met=False)
-        self.assertEqual(self.told("--strict"), dict(whole, wrong=2))
-        # The dumps of a run that is stopped stand on no line.
-        dumps = self.told("--until", "1")["answers"][1:]  # type: ignore[index]
-        names = ("regs", "beam", "latches", "bda")
-        wanted = [
-            {"step": at, "line": None, "words": f"show {name}", "answer": "look"}
-            for at, name in enumerate(names, 2)
-        ]
-        self.assertEqual(dumps, wanted)
-
-    def test_scripts_of_a_folder_tell_what_each_tells_alone(self) -> None:
-        self.write("tests/t.vga", JSON_TEXT)
-        alone = self.run_script("--json", "-", path="tests/t.vga")[1]
-        both = self.run_script("--json", "-", path="tests")[1]
-        self.assertEqual(json.loads(both), [json.loads(alone)])
-        self.assertTrue(alone.endswith("}\n") and both.endswith("]\n"))
-        self.assertIn(WHY, both)
-
     def suite(self, path: str) -> ElementTree.Element:
         """The XML of a run of a folder or a script."""
         self.run_script("--junit", "junit.xml", path=path)
         return ElementTree.parse(self.folder / "junit.xml").getroot()
 
-    def test_the_names_in_the_xml(self) -> None:
-        # A folder may be called as a script is; and those of a folder stand at its place.
-        for name in ("b.vga", "a.bin", "a/z.vga", "c.vga/d.vga", "e.vgax", "vga"):
-            self.write(f"tests/{name}", "get 0 ; = E6\n")
-        suite = self.suite("tests")
-        names = [f"tests/{name}" for name in ("a/z.vga", "a.bin", "b.vga", "c.vga/d.vga")]
-        self.assertEqual(
-            (suite.get("name"), [case.get("name") for case in suite]), ("tests", names)
-        )
-        self.assertEqual({case.get("classname") for case in suite}, {"tests"})
-        for one in (suite, *suite):
-            self.assertRegex(one.get("time") or "", r"^\d+\.\d{3}$")
-        (case,) = self.suite("tests/b.vga")
-        self.assertEqual((case.get("classname"), case.get("name")), (names[2], names[2]))
-
     def test_times_and_reasons_in_the_xml(self) -> None:
-        for name, text in (("a\x1b[1m", "get 0\n"), ("b", "move\n"), ("c", "get 0 ; = 5\n")):
+        for name, text in (("a\x1b[1m", "get 0\n"), ("b", "move\n"), ("c", "get 0 ; = 55\n")):
             self.write(f"tests/{name}.vga", text)
         suite = self.suite("tests")
         self.assertEqual(suite[0].get("name"), "tests/a?[1m.vga")
@@ -413,12 +299,12 @@ class Machines(Fake):
         self.assertRegex(
             suite[1][0].get("message") or "", "^zaklimot: tests/b.vga:1: F7 BadLine.1.: there is"
         )
-        told = "tests/c.vga:1: step 1: GET 0 answers E6, not 5"
+        told = "tests/c.vga:1: step 1: GET 0 answers E6, not 55"
         self.assertEqual(suite[2][0].get("message"), told)
 
     def test_what_xml_does_not_take_is_no_part_of_it(self) -> None:
         path = self.write("bad.vga", "get 0 ; = \x1b[2J<\ufffe\n")
         (case,) = self.suite(path)
-        told = f"{path}:1: step 1: GET 0 answers E6, not ?[2J<?"
-        self.assertEqual(case[0].get("message"), told)
-        self.assertTrue((case[0].text or "").startswith(f"{told}\n"))
+        told = f"zaklimot: {path}:1: no answer of `get` is `?[2J<?`: it answers a byte"
+        self.assertTrue((case[0].get("message") or "").startswith(told))
+        self.assertTrue((case[0].text or "").startswith(told))

@@ -1,21 +1,17 @@
-"""The state that cycles leave is the program's; and scripts that begin with one, which the library
-rebuilds, end as the whole does."""
+"""Scripts that begin with a state, which the library rebuilds, end as the whole does."""
 
 import unittest
 from functools import partial
-from itertools import product
 from random import Random
-from typing import Iterable, Iterator
+from typing import Iterable
 from unittest import mock
 
 import zaklimot
-from zaklimot.format import HEADERS, Block, Picture, Script, Step, encode
-from zaklimot.commands.explain.banks import FrameShape
+from zaklimot.format import HEADERS, Answer, Block, Picture, Script, Step, encode
 from zaklimot.commands.report.report import Report
 from zaklimot.commands.script.words import FONTS
-from zaklimot.commands.trace import rebuilding
-from zaklimot.commands.trace.rebuilding import Follower, steps_behind
-from zaklimot.commands.trace.state import Beam, BeamPlace, State
+from zaklimot.commands.trace import following
+from zaklimot.commands.trace.following import Follower, steps_behind
 from zaklimot.commands.trace.step import (
     ADVANCE,
     FRAME,
@@ -26,12 +22,11 @@ from zaklimot.commands.trace.step import (
     PUT,
     PUTW,
     READS,
-    WORDS,
     TraceStep,
 )
 from zaklimot.commands.trace.trace import Call
 
-from .tools import hold, refused, run_texts, stream, takes_long, want_library
+from .tools import refused, run_texts, stream, takes_long, want_library
 from .tracing import steps_listed
 
 # Steps that enable memory, in planar order with all planes open and no bits masked.
@@ -87,10 +82,6 @@ PLACES = (0xA0000, 0xA0000, 0xA0000, 0xAFFF0, 0xB0000, 0xB7FF0, 0xB8000, 0xBFFF0
 LARGE = {0x01: 0x07, 0x06: 0x1F, 0x07: 0x3F, 0x12: 0x1F, 0x09: 0x9F}
 
 
-def hexed(numbers: Iterable[int]) -> str:
-    return "".join(f" {number:02X}" for number in numbers)
-
-
 def noise(seed: int, count: int) -> bytes:
     """A trace of so many cycles."""
     random = Random(seed)
@@ -129,7 +120,7 @@ def of_port(random: Random) -> str:
 
 @takes_long
 class Program(unittest.TestCase):
-    def test_the_state_and_each_end_of_a_cut_are_the_programs(self) -> None:
+    def test_the_end_of_each_cut_is_the_same(self) -> None:
         cuts = {f"{seed} {first}": (seed, first) for seed in SEEDS for first in FIRSTS}
         # Without the frames at the end, so that the beam is shown where the cycles leave it.
         scripts = {
@@ -143,8 +134,7 @@ class Program(unittest.TestCase):
         for name, run in run_texts(texts).items():
             with self.subTest(name):
                 answers = list(Report(stream(run.report), name).steps())
-                count = len(scripts[name])
-                state = self.followed(scripts[name], [answer.answer for answer in answers])
+                self.hold_reads(scripts[name], answers)
                 # The frame under way is another, and so is what the beam takes from it; the frame
                 # after it is the same.
                 shown: list[tuple[str, ...]] = [
@@ -152,90 +142,16 @@ class Program(unittest.TestCase):
                         answer.picture.sum if isinstance(answer.picture, Picture) else "",
                         *(line.partition(" base ")[0] for line in answer.lines),
                     )
-                    for answer in (*answers[count:-2], answers[-1])
+                    for answer in (*answers[len(scripts[name]) : -2], answers[-1])
                 ]
-                for line, (_, *lines) in zip(self.dumps(state), shown):
-                    self.assertEqual(line, "\n".join(lines))
                 for one, other in zip(ends.setdefault(cuts[name][0], shown), shown):
                     self.assertEqual(one, other)
 
-    def followed(self, steps: list[TraceStep], answers: list[str]) -> State:
-        """The state that steps leave, each read of which is what the program answered; as those
-        that rebuild tell."""
-        state = State()
+    def hold_reads(self, steps: list[TraceStep], answers: list[Answer]) -> None:
+        """The steps that rebuild a state tell what they read."""
         for step, answer in zip(steps, answers):
-            read = state.take(step)
-            if step.opcode in READS and not step.is_status:
-                digits = 4 if step.opcode in WORDS else 2
-                self.assertEqual(read, int(answer, 16) if len(answer) == digits else None, step)
-                self.assertEqual(read, read if step.cycle else step.value, step)
-        return state
-
-    def dumps(self, state: State) -> Iterator[str]:
-        """What the program shows of a state."""
-        for plane, offset in product(range(4), range(0, 1 << 16, 256)):
-            words = state.memory.words[offset : offset + 256]
-            yield f"plane {plane} {offset:04X}:" + hexed(word >> 8 * plane & 0xFF for word in words)
-        named = ((name, vars(state)[name]) for name in ("seq", "crtc", "gfx"))
-        banks = [f"{name} {bank.index:02X}:{hexed(bank.registers)}" for name, bank in named]
-        dac = state.dac
-        attributes = (
-            f"attr {state.attr.index:02X} {'id'[state.is_data]}:{hexed(state.attr.registers)}"
-        )
-        next_one = f"dac {dac.index:02X} {'rgb'[dac.next]} {dac.mask:02X}{hexed(dac.waiting)}"
-        yield "\n".join([f"misc {state.misc:02X}", *banks, attributes, next_one])
-        yield f"latches{hexed(state.memory.latches.to_bytes(4, 'little'))}"
-        yield "beam frame {} line {} char {} dot {}".format(state.beam.frame, *state.beam.place)
-        for entry in range(256):
-            yield f"entry {entry:02X}:{hexed(dac.components[3 * entry:3 * entry + 3])}"
-
-
-class Beams(unittest.TestCase):
-    # Four lines of five characters of eight dots, so 40 dots a line and 160 a frame.
-    SHAPE = FrameShape(4, 5, 8)
-
-    def after(self, place: tuple[int, int, int], dots: int) -> tuple[int, BeamPlace]:
-        """The frame and the place of a beam that goes on by so many dots."""
-        beam = Beam()
-        beam.frame = 31
-        beam.place = BeamPlace(*place)
-        beam.advance(dots, self.SHAPE)
-        return beam.frame, beam.place
-
-    def test_places_after_some_dots(self) -> None:
-        hold(
-            self,
-            self.after,
-            (
-                ((0, 0, 0), 0, (31, (0, 0, 0))),
-                ((0, 0, 0), 7, (31, (0, 0, 7))),
-                ((0, 0, 0), 8, (31, (0, 1, 0))),
-                ((0, 0, 0), 39, (31, (0, 4, 7))),
-                ((0, 0, 0), 40, (31, (1, 0, 0))),
-                ((0, 0, 0), 159, (31, (3, 4, 7))),
-                ((0, 0, 0), 160, (0, (0, 0, 0))),
-                ((2, 3, 5), 160 * 2 + 1, (1, (2, 3, 6))),
-            ),
-        )
-
-    def test_what_a_place_outside_is_in_stays_until_it_ends(self) -> None:
-        hold(
-            self,
-            self.after,
-            (
-                # A line behind the last one ends as that does, and the frame with it.
-                ((9, 0, 0), 7, (31, (9, 0, 7))),
-                ((9, 0, 0), 8, (31, (9, 1, 0))),
-                ((9, 0, 0), 39, (31, (9, 4, 7))),
-                ((9, 0, 0), 40, (0, (0, 0, 0))),
-                # So do a character and a dot.
-                ((1, 7, 0), 7, (31, (1, 7, 7))),
-                ((1, 7, 0), 8, (31, (2, 0, 0))),
-                ((9, 7, 3), 5, (0, (0, 0, 0))),
-                ((1, 2, 8), 0, (31, (1, 2, 8))),
-                ((1, 2, 8), 1, (31, (1, 3, 0))),
-            ),
-        )
+            if step.opcode in READS and not step.is_status and not step.cycle:
+                self.assertEqual(step.value, int(answer.answer, 16), step)
 
 
 class Cuts(unittest.TestCase):
@@ -270,10 +186,7 @@ class Rebuilding(unittest.TestCase):
         """Holds the state that is rebuilt behind steps to that behind themselves; the steps."""
         follower = Follower()
         for step in steps:
-            if step.opcode == FRAME:
-                follower.end_frame()
-            else:
-                follower.take(step.data())
+            follower.take(step)
         rebuilt = follower.rebuilt()
         one, other = self.card(steps), self.card(rebuilt)
         for part in ("registers", "palette", "latches", "beam", "bios_data"):
@@ -318,9 +231,9 @@ class Rebuilding(unittest.TestCase):
 
     def test_many_steps_are_taken_at_a_time(self) -> None:
         steps = [TraceStep(OUTW, 0x3C4, at % 16 << 8 | 2) for at in range(100)]
-        with mock.patch.object(rebuilding, "MOST_STEPS", 7):
+        with mock.patch.object(following, "MOST_STEPS", 7):
             self.hold_rebuilt(*steps)
-        with mock.patch.object(rebuilding, "MOST_TAKEN", 9):
+        with mock.patch.object(following, "MOST_TAKEN", 9):
             self.hold_rebuilt(*steps)
 
     def test_a_script_with_blocks(self) -> None:

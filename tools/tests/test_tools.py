@@ -4,12 +4,9 @@ left; and the gate."""
 from __future__ import annotations
 
 import ast
-import contextlib
 import io
-import json
 import os
 import re
-import shutil
 import stat
 import sys
 import unittest
@@ -21,7 +18,6 @@ from unittest import mock
 from zaklimot.commands.core import cli
 from zaklimot.commands.core.processes import (
     IS_LINUX,
-    Done,
     Failed,
     Limits,
     Outcome,
@@ -37,14 +33,11 @@ from zaklimot.commands.core.streams import write_file, writing
 from zaklimot.commands.core.trouble import TROUBLE, Trouble
 from zaklimot.commands.core.words import MEBIBYTE
 from zaklimot_dev.library.making import AARCH64
-from zaklimot_dev.testing import checking, running
+from zaklimot_dev.testing import running
 from zaklimot_dev.testing.running import TESTED
 from zaklimot.commands.report.listing import _wait_for
-from zaklimot.commands.script.crates import phases
 
 from .tools import (
-    patched,
-    main_of,
     NAMES,
     PACKAGE,
     PYTHON,
@@ -57,14 +50,12 @@ from .tools import (
     call,
     ended,
     hold,
-    hold_undone,
     refused,
     run_tool,
     takes_long,
 )
 
 
-NOTING = Path(__file__).with_name("noting.sh").read_text("ascii")
 # Starts a program, and has a signal come amid its start; its status tells that the signal came.
 INTERRUPTED = """
 import os, signal, sys
@@ -95,9 +86,6 @@ signal.signal(signal.SIGTERM, lambda *_: (child.kill(), child.wait(), sys.exit(1
 open(os.environ['CHILD'], 'w').write(f'{child.pid} {os.getpid()}\\n')
 time.sleep(600)
 """
-# What it says of a wrong body, as a line after `noting.sh`; and of one that a contract refuses.
-SAYING = "echo 'rt: must-fail vga_host/{}.edit: {}'\n"
-REFUSED = "refused, as it must be: src/host.rt:1:1: error"
 # What stands in the place of `vga`, for the fuzzer.
 SLEEPING = """import os, time
 open(os.environ['CHILD'], 'w').write(f'{os.getpid()}\\n')
@@ -474,36 +462,6 @@ class Lines(Folder):
             self.assertEqual(cli.run("tool", work, progress), TROUBLE)
         self.assertEqual(self.terminal.getvalue(), "\rr: 9 %\r      \rtool: r: why\n")
 
-    def test_phases_tell_the_crate_that_is_proved(self) -> None:
-        told: list[str] = []
-        progress = mock.create_autospec(Progress)
-        progress.tell.side_effect = told.append
-        with mock.patch("zaklimot.commands.script.crates.below", return_value=["low"]):
-            hear = phases(progress, "high")("proving")
-        for line in (
-            "",
-            "so far",
-            "rt: low: begins with what is kept",
-            "crate high: modules loaded=1 checked=2",
-            "linked",
-            # Of several crates of a line the last is meant.
-            "rt: high: looks at low",
-        ):
-            self.now += 61
-            hear(line)
-        self.assertEqual(
-            told,
-            [
-                "0:00 proving",
-                "1:01 proving",
-                "2:02 proving: so far",
-                "3:03 proving: low, crate 1 of 2",
-                "4:04 proving: high, crate 2 of 2, is done",
-                "5:05 proving: high, crate 2 of 2, is done",
-                "6:06 proving: low, crate 1 of 2",
-            ],
-        )
-
     def test_how_long_the_first_answer_takes_is_told(self) -> None:
         reader, writer = os.pipe()
         progress = mock.Mock(is_wanted=True, tell=mock.Mock(side_effect=lambda _: os.close(writer)))
@@ -570,15 +528,6 @@ class Running(Folder):
         self.assertIn("MemoryError", said)
         self.assertRegex(said, r"(?m)^failed  takes\.One\.test_one$")
 
-    @unittest.skipUnless(IS_LINUX, "limits are those of Linux")
-    def test_a_class_of_tests_may_need_more_memory(self) -> None:
-        # The test after it has as much as others.
-        status, said = self.run_tests(
-            more="bytes(3 << 30)\n    most_memory = 1 << 32", takes="bytes(3 << 30)"
-        )
-        self.assertEqual((status, said.splitlines()[-1]), (1, "1 passed, 1 failed"))
-        self.assertRegex(said, r"(?m)^failed  takes\.One\.test_one$")
-
     def test_a_test_that_takes_too_long(self) -> None:
         status, said = self.run_tests(
             takes="time.sleep(60)\n    most_seconds = 0.5",
@@ -589,13 +538,6 @@ class Running(Folder):
         for name in ("takes", "sets_up"):
             self.assertRegex(said, rf"(?m)^failed  {name}\.One\.test_one$")
         self.assertIn("TookTooLong: the test takes more than 0.5 seconds", said)
-
-    def test_a_class_of_tests_may_need_more_time(self) -> None:
-        left = "left = signal.getitimer(signal.ITIMER_REAL)[0]; assert {} - 1 < left <= {}, left"
-        status, said = self.run_tests(
-            more=left.format(600, 600) + "\n    most_seconds = 600", good=left.format(300, 300)
-        )
-        self.assertEqual((status, said.splitlines()[-1]), (0, "2 passed, 0 failed"))
 
     def test_one_that_is_skipped_is_told_with_the_reason(self) -> None:
         status, said = self.run_tests(skips="self.skipTest('it is Sunday')", good="pass")
@@ -620,26 +562,6 @@ class Running(Folder):
                 self.assertEqual(said.splitlines()[-1], counts)
                 self.assertEqual(status, int("1 failed" in counts or "2 failed" in counts))
 
-    def test_modules_classes_and_tests_by_their_names(self) -> None:
-        for name, count in (
-            ("tests.test_seeds", 2),
-            ("tests.test_seeds.Seeds", 2),
-            ("tests.test_seeds.Seeds.test_inputs", 1),
-        ):
-            self.assertEqual(len(running._found([name])), count, name)
-        status, output, said = run_tool("tests-of-tools", "tests.test_none")
-        self.assertEqual((status, said), (1, ""))
-        self.assertIn(b"No module named 'tests.test_none'\n", output)
-
-    def test_no_test_ran(self) -> None:
-        self.assertEqual(refused(self.run_none), "empty: there is no test")
-
-    def run_none(self) -> None:
-        self.write("empty.py", "")
-        with mock.patch.object(sys, "path", [str(self.folder), *sys.path]):
-            with mock.patch.dict(os.environ):
-                running.run_tests(["empty"], "none", Progress(False))
-
     def test_what_takes_long_is_left_out_and_counted(self) -> None:
         marked = "pass\n    @tools.takes_long\n    def test_two(self): pass"
         self.write("marked.py", TEST.format(marked))
@@ -647,177 +569,3 @@ class Running(Folder):
         with mock.patch.object(sys, "path", [str(self.folder), *sys.path]):
             tests = list(running._flat(found.loadTestsFromName("marked")))
         self.assertEqual([running._is_long(test) for test in tests], [False, True])
-
-    def test_the_program_that_is_tested(self) -> None:
-        line = f"Path('{self.folder}/seen').write_text(str(tools.PROGRAM))"
-        for variables, built, wanted in (
-            ({}, True, "built"),
-            ({TESTED: "given"}, True, "built"),
-            ({TESTED: "given"}, False, "given"),
-        ):
-            path = Path(self.program("built", "")) if built else self.folder / "none"
-            with mock.patch.object(running, "PROGRAM", path), mock.patch.dict(
-                os.environ, variables
-            ):
-                self.assertEqual(self.run_tests(sees=line)[0], 0)
-            self.assertEqual(Path((self.folder / "seen").read_text()).name, wanted)
-
-    def test_a_test_that_wants_the_program_is_skipped_or_fails(self) -> None:
-        line = "tools.PROGRAM = Path('none'); tools.want_program()"
-        status, said = self.run_tests(wants=line)
-        self.assertEqual((status, said.splitlines()[-1]), (0, "0 passed, 0 failed, 1 skipped"))
-        status, said = self.run_tests("--built", wants=line)
-        self.assertEqual((status, said.splitlines()[-1]), (1, "0 passed, 1 failed"))
-
-
-@takes_long
-class Checking(Folder):
-    """The test command for a machine without Rattle."""
-
-    def checked(self, suite: running.Counts, **lines: str) -> tuple[int, list[str]]:
-        """Exit status and the lines that it prints where the suite comes to these counts, and
-        modules have these tests."""
-        names = [
-            Path(self.write(f"{name}.py", TEST.format(line))).stem for name, line in lines.items()
-        ]
-        # The suite is asked of this program alone.
-        suites = {"portable": suite}
-        given = {
-            "portable_program": lambda: "portable",
-            "check_suite": suites.__getitem__,
-        }
-
-        def prepare() -> None:
-            patched(checking, given).start()
-            find_modules(self.folder)
-
-        status, output, said = run_tool("vga-check", *names, prepare=prepare)
-        self.assertEqual(said, "")
-        return status, output.decode().splitlines()
-
-    def test_the_last_line_counts_cases_and_tests(self) -> None:
-        good = "assert str(tools.PROGRAM) == 'portable'"
-        for suite, lines, told in (
-            ((963, 0, 0), {"good": good, "other": good}, (0, "965 passed, 0 failed")),
-            (
-                (963, 0, 0),
-                {"good": good, "skips": "self.skipTest('why')"},
-                (0, "964 passed, 0 failed, 1 skipped"),
-            ),
-            ((963, 0, 0), {"good": good, "fails": "self.fail('oh')"}, (1, "964 passed, 1 failed")),
-            ((963, 0, 0), {"ends": "os._exit(0)"}, (1, "963 passed, 1 failed")),
-            ((960, 2, 1), {"good": good}, (1, "961 passed, 2 failed, 1 skipped")),
-        ):
-            with self.subTest(told):
-                status, output = self.checked(running.Counts(*suite), **lines)
-                self.assertEqual((status, output[-1]), told)
-                self.assertEqual("skipped  skips.One: why" in output, "skips" in lines)
-
-    def test_the_suite_over_a_program(self) -> None:
-        # A program that knows two of the cases.
-        faults = "case $2 in *.bin|*bytes*) echo 'vga: F2 BadMagic' >&2;; esac; exit 1"
-        bad = self.program("bad", f"#!/bin/sh\n{faults}\n")
-        output = io.StringIO()
-        with contextlib.redirect_stdout(output):
-            checked = checking.check_suite(bad, "--only", "examples/cut-script-0")
-        self.assertEqual((checked.passed + checked.failed, checked.skipped), (10, 0))
-        self.assertTrue(0 < checked.passed < checked.failed)
-        self.assertEqual(
-            len(
-                re.findall(
-                    "^(?:differs|failed)  examples/cut-script-0\\d: .", output.getvalue(), re.M
-                )
-            ),
-            checked.failed,
-        )
-
-    def test_cases_that_failed_count_beside_those_that_differ(self) -> None:
-        cases = [{"answer": "failed", "name": "a/one", "reason": "it ended"}]
-        told = {
-            "rules": [{"cases": cases}],
-            "cases": {"agrees": 9, "skipped": 1, "differs": 2, "failed": 4},
-        }
-        for status in (0, 1, 2):
-            done = Done(status, json.dumps(told).encode(), b"")
-            output = io.StringIO()
-            with mock.patch.object(checking, "captured", lambda *_, **__: done):
-                with contextlib.redirect_stdout(output):
-                    self.assertEqual(checking.check_suite("vga"), running.Counts(9, 6, 1))
-            self.assertEqual(output.getvalue(), "failed  a/one: it ended\n")
-
-    def test_what_ends_it_at_once(self) -> None:
-        with mock.patch.dict(os.environ, CC="no-such-compiler"):
-            hold_undone(
-                self, call(main_of("vga-check")), "^vga-check: no-such-compiler: CC names it "
-            )
-
-
-@takes_long
-@unittest.skipIf(sys.platform == "win32", "a script is a program on POSIX")
-class Gate(Folder):
-    def run_gate(
-        self, tests: str, memory: str = "", prover: str = NOTING, path: str = os.environ["PATH"]
-    ) -> tuple[int, str, str]:
-        """Status of the gate over these programs and others that note their words; the notes; its
-        standard error."""
-        gate = self.folder / "gate"
-        notes = Path(self.write("notes", ""))
-        shutil.copytree(TOP / ".ci", gate / ".ci")
-        names = ("page-tests", "bindings-tests", "library-tests", "style")
-        fakes = dict.fromkeys((f"vga-{name}" for name in names), NOTING)
-        fakes["tests-in-a-bare-root"] = NOTING
-        refusing = self.program("refusing", memory)
-        beside = f'[ "$1" = tests.allocations ] && exec {refusing}\n'
-        fakes["tests-of-tools"] = NOTING.replace("\n", f"\n{beside}", 1)
-        for name, text in {**fakes, "vga-check": tests, "rt": prover}.items():
-            if text:
-                self.program(f"gate/tools/{name}", text)
-        # The gate fetches these where they are lacking.
-        for name in ("wasm-opt", "wasm2c", "apt-get"):
-            self.program(f"gate/tools/{name}", NOTING)
-        given = {
-            "NOTES": str(notes),
-            "PATH": f"{gate / 'tools'}:{path}",
-            "TMPDIR": self.temporary(),
-        }
-        status, _, error = ended(gate / ".ci" / "run", env={**os.environ, **given})
-        return status, notes.read_text("utf-8"), error
-
-    def test_nothing_runs_on_where_a_test_fails(self) -> None:
-        number = self.folder / "number"
-        memory = (
-            f"import os, time\nopen({str(number)!r},"
-            " 'w').write(str(os.getpid()))\ntime.sleep(600)\n"
-        )
-        failing = f"#!/bin/sh\nwhile ! [ -s {number} ]; do sleep 0.05; done\nexit 1\n"
-        self.assertEqual(self.run_gate(failing, memory)[0], 1)
-        self.assert_ended(int(number.read_text()))
-
-    def test_without_the_toolchain_nothing_is_installed(self) -> None:
-        status, notes, error = self.run_gate(NOTING, prover="", path="/usr/bin:/bin")
-        self.assertEqual((status, notes), (2, ""))
-        self.assertRegex(error, "^.ci/run: rt is not in the path: .* 'Build it'$")
-
-    def test_all_tests_run_again_once_the_program_is_built(self) -> None:
-        status, notes, _ = self.run_gate(NOTING, prover=NOTING + SAYING.format("turned", REFUSED))
-        self.assertEqual(status, 0)
-        parts = ("vga-check --all", "tests-in-a-bare-root ", "rt ci", "tests-of-tools --built")
-        self.assertIn("\n{}\n{}\n{}\n{}\n".format(*parts), notes)
-        self.assertLess(notes.index("\nvga-style "), notes.index("\nvga-check "))
-        self.assertIn("\nvga-library-tests --portable --gated --proof ", notes)
-
-    def test_a_wrong_body_that_no_contract_refuses(self) -> None:
-        names = "only because a proof file names"
-        told = {
-            "unread": ("BAD EDIT: the prover cannot read the edited text", "BAD EDIT"),
-            "untried": ("NOT TRIED: its check was killed", "NOT TRIED"),
-            "renamed": (f"refused, as it must be ({names} what the edit took away)", names),
-        }
-        said = "".join(SAYING.format(edit, text) for edit, (text, _) in told.items())
-        status, notes, error = self.run_gate(
-            NOTING, prover=NOTING + SAYING.format("turned", REFUSED) + said
-        )
-        self.assertEqual(status, 1)
-        shown = "".join(f"vga_host/{edit}.edit: {reason}\n" for edit, (_, reason) in told.items())
-        self.assertEqual(error.partition("\n")[2], shown)
-        self.assertNotIn("tests-of-tools", notes)

@@ -5,8 +5,13 @@ from __future__ import annotations
 
 import io
 from functools import partial
+from typing import ContextManager, Mapping, Optional, Sequence
+from unittest import mock
 
+from zaklimot.format import Picture
+from zaklimot.commands.trace.cells import TextScreen
 from zaklimot.commands.trace.converting import Listing
+from zaklimot.commands.trace.following import Follower
 from zaklimot.commands.trace.step import OUT, OUTW, TraceStep
 from zaklimot.commands.trace.trace import Cycle, Trace
 
@@ -65,3 +70,31 @@ def registers(misc: int, clocking: int) -> list[TraceStep]:
         TraceStep(OUTW, 0x3D4, 0xBF06),
         TraceStep(OUTW, 0x3D4, 0x1F07),
     ]
+
+
+def text_screen(crtc: Mapping[int, int], words: Sequence[int], clocking: int = 1) -> TextScreen:
+    """The text of a card with these registers of the CRT controller, and characters and attributes
+    in planes 0 and 1."""
+    follower = Follower()
+    card = follower.card
+    card.out(0x3C2, 0x67)
+    # A byte goes to the plane of the map mask, at the offset of its address.
+    for port, word in (
+        (0x3C4, 0x0604),
+        (0x3C4, clocking << 8 | 1),
+        (0x3CE, 0x0406),
+        (0x3CE, 0xFF08),
+    ):
+        card.out_word(port, word)
+    for plane in (0, 1):
+        card.out_word(0x3C4, 1 << plane << 8 | 2)
+        card.put_bytes(0xA0000, bytes(word >> 8 * plane & 0xFF for word in words))
+    for index, value in crtc.items():
+        card.out_word(0x3D4, value << 8 | index)
+    return TextScreen(follower, "screen")
+
+
+def drawing(*given: Optional[bytes]) -> "ContextManager[object]":
+    """Cards draw these pictures, the one after the other; None of a frame without one."""
+    pictures = [None if ppm is None else Picture.of_ppm(ppm) for ppm in given]
+    return mock.patch.object(Follower, "picture", side_effect=pictures)
