@@ -27,7 +27,7 @@ from zaklimot.commands.core.trouble import AGREED, DIFFERED, Trouble
 from zaklimot.commands.explain.faults import script_of
 from zaklimot.commands.floppy.image import image_for
 from zaklimot.commands.report.places import SUITE
-from zaklimot.commands.script.program import found_program
+from zaklimot.commands.script.program import BuiltProgram, found_program
 from zaklimot.commands.script.words import FONTS
 from zaklimot.commands.trace.asked import Deed
 from zaklimot.commands.trace.parts import TRACE
@@ -247,7 +247,7 @@ def replay_all(words: argparse.Namespace, progress: Progress) -> int:
             _say(name, "left out, since --unpacked names no folder")
             continue
         _record(name, words, progress)
-        replayed = replay(words.folder / name, program, str(FONTS), progress)
+        replayed = replay(words.folder / name, BuiltProgram(program), str(FONTS), progress)
         for line in replayed.listing.warnings():
             _say(name, line)
         told = row(name, replayed, software.refused, software.dots)
