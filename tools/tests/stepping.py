@@ -1,4 +1,4 @@
-"""Files of single-step tests for the modules that test them, made once in each."""
+"""Files of single-step tests for the modules that test them: the examples."""
 
 from __future__ import annotations
 
@@ -7,7 +7,6 @@ import gzip
 import io
 import os
 import shutil
-import tempfile
 import unittest
 from pathlib import Path
 from typing import Any, Iterator
@@ -19,12 +18,13 @@ from zaklimot.commands.steps.making import elements
 from zaklimot.commands.steps.parts import Element
 from zaklimot.commands.script.words import FONTS
 
-from .tools import EXAMPLES, Folder, run_tool, takes_long
+from .tools import EXAMPLES, Folder, run_tool
 
 STEPS_EXAMPLES = EXAMPLES / "steps"
-# The seed of these tests, and how many elements of each kind they take.
-SEED = 1
-COUNT = 50
+# The seed of the examples, and how many elements of each kind they have. A release has another
+# seed.
+SEED = 2
+COUNT = 20
 NO_COMPILER = "there is no C compiler to make the library with"
 GOOD: Element = {
     "name": "a write",
@@ -46,9 +46,8 @@ def told(path: Path) -> bytes:
     return gzip.decompress(data) if path.suffix == ".gz" else data
 
 
-# The files of all kinds, made once in a process, and the folder that has them until it ends.
-files: dict[str, Path] = {}
-folders: list[tempfile.TemporaryDirectory[str]] = []
+# The files of all kinds.
+files = {path.name.partition(".")[0]: path for path in STEPS_EXAMPLES.glob("*.json.gz")}
 
 
 def compile_library() -> None:
@@ -59,24 +58,12 @@ def compile_library() -> None:
         load()
 
 
-def make_files() -> None:
-    """Makes the files of all kinds."""
-    compile_library()
-    folder = tempfile.TemporaryDirectory()
-    folders.append(folder)
-    status, output, said = steps("make", folder.name, "--count", COUNT, "--seed", SEED, "--jobs", 4)
-    assert (status, said) == (0, ""), said
-    files.update({Path(name).name.partition(".")[0]: Path(name) for name in output.split()})
-
-
-@takes_long
 class Made(Folder):
-    """A test with the files of all kinds."""
+    """A test with the files of all kinds, and with the library."""
 
     @classmethod
     def setUpClass(cls) -> None:
-        if not files:
-            make_files()
+        compile_library()
 
     @property
     def files(self) -> dict[str, Path]:

@@ -20,6 +20,8 @@ from .tools import takes_long
 # Kinds of which each number of a state differs in turn: with places, entries of the DAC, the beam,
 # BIOS data, and the sums of all memory.
 CHANGED = ("write-words", "dac-writes", "dots-text", "service-06", "service-00-mode-sets")
+# A list with more has places; no registers are so many.
+MOST_NUMBERS = 32
 # Dumped registers without the values of most, and a picture of one dot.
 SHOWN = "misc 00\nseq 00: 00\ncrtc 00: 00\ngfx 00: 00\nattr 00 i: 00\ndac 00 r FF 00 00"
 PICTURE = b"P6\n1 1\n63\n\1\2\3"
@@ -31,8 +33,10 @@ def examples(kind: str) -> Iterator[Element]:
 
 
 def numbers_in(value: Any) -> Iterator[tuple[Any, Any]]:
-    """Each number in what JSON gives: the list or the object that has it, and its place there."""
-    for key in value if isinstance(value, dict) else range(len(value)):
+    """Each number in what JSON gives: the list or the object that has it, and its place there. Of a
+    long list of places these are the first and the last ones."""
+    keys = list(value if isinstance(value, dict) else range(len(value)))
+    for key in keys if len(keys) <= MOST_NUMBERS else (*keys[:4], *keys[-4:]):
         if isinstance(value[key], (dict, list)):
             yield from numbers_in(value[key])
         else:

@@ -190,7 +190,7 @@ class Registry(Folder):
 
     def test_an_input_has_a_name(self) -> None:
         taken = self.taken(script=Input("s"), fonts=Input(""))
-        self.assertEqual(taken, "the name of a file is empty")
+        self.assertIn("the name of a file ", taken)
 
     def test_standard_input_is_read_once(self) -> None:
         self.assertIn("can be read once", self.taken(report=Input("-"), other=Input("-")))

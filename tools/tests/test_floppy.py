@@ -601,7 +601,9 @@ class Runs(Folder):
         self.assertEqual(done, (2, b"", told))
 
     def test_a_full_disk_beneath_the_run(self) -> None:
-        environment = {**os.environ, "PATH": self.path_with(), "TMPDIR": self.scratch}
+        given = {"PATH": self.path_with(), "TMPDIR": self.scratch}
+        # A module that Python compiles under the limit would be kept cut short, for other tests.
+        environment = {**os.environ, **given, "PYTHONDONTWRITEBYTECODE": "1"}
         words = (
             "sh",
             "-c",

@@ -19,7 +19,7 @@ from zaklimot.commands.floppy.image import (
     read_record,
     report_lines,
 )
-from zaklimot.commands.floppy.running import MACHINES, PackagedFile
+from zaklimot.commands.floppy.running import PackagedFile
 from zaklimot.commands.floppy.table import Table, table_for
 
 from .floppy import ANSWERS, MARK, Machine, line, machine
@@ -143,19 +143,6 @@ class Reports(Folder):
         self.assertEqual(told, {"a/one.report": "1 CC\n", "two.report": "1 CE\n"})
 
 
-class Versions(Folder):
-    def test_programs_that_tell_no_version(self) -> None:
-        # Neither the emulator nor Debian's list of packages is there, or the package is none.
-        for path, what in (("", "qemu"), ("bin", "the package seabios")):
-            self.program("bin/qemu-system-i386", "#!/bin/sh\necho QEMU emulator version 7.2.5\n")
-            self.program(
-                "bin/dpkg-query", "#!/bin/sh\necho no packages found matching 1.2 >&2\nexit 1\n"
-            )
-            with mock.patch.dict(os.environ, PATH=f"{self.folder}/{path}"):
-                told = refused(MACHINES["qemu"].full_version)
-            self.assertEqual(told, f"the version of {what} can't be told")
-
-
 class Scripts(Folder):
     def test_a_list_as_other_systems_write_it(self) -> None:
         # Empty lines are none, and what stands behind a name is for a harness alone.
@@ -192,18 +179,6 @@ class Scripts(Folder):
         image.write_bytes(Machine(image.read_bytes()).image)
         self.assertEqual(run("read", image, reports), (0, b"", ""))
         self.assertEqual((reports / f"{name}.report").read_bytes(), b"1 CC\n")
-
-    def test_a_folder_without_a_list_and_one_that_lists_nothing(self) -> None:
-        (self.folder / "scripts").mkdir()
-        scripts = self.folder / "scripts"
-        told = f"^zaklimot: {scripts}: it is a folder without list.txt, which `zaklimot suite"
-        hold_undone(self, run("make", scripts, "-"), told)
-        self.write("scripts/list.txt", "gone.vga -\n")
-        hold_undone(
-            self,
-            run("make", scripts, "-"),
-            f"^zaklimot: {scripts}/gone.vga: No such file or directory\n$",
-        )
 
     def test_a_script_of_no_steps(self) -> None:
         image = self.write("image", machine(b"").image)
@@ -272,15 +247,6 @@ class Lengths(Folder):
 
 
 class Runs(Folder):
-    def test_answers_that_no_step_has(self) -> None:
-        table = Table(table_for({"": script_of(b"in 3CC\n", "it")}), "it")
-        for answers, told in (
-            (b"", "it: it has no answer for step 1"),
-            (b"\1\2", "it: it has 2 bytes of answers, and its steps have 1"),
-        ):
-            self.assertEqual(refused(lambda: list(report_lines(Run(table, answers), "it"))), told)
-        self.assertEqual(list(report_lines(Run(table, b"\1"), "it")), [b"1 01\n"])
-
     def test_a_word_that_reaches_input_status_1(self) -> None:
         # It is read, and its answer left out: the beam's position hangs on the time.
         booted = machine(b"inw 3D9\ninw 3DA\ninw 3DB\nin 3DB\nin 3BA\ninw 3B9\nin 3B9\n")

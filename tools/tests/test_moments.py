@@ -162,10 +162,10 @@ class Deeds(unittest.TestCase):
             ("a,", "'a,' is no key of qemu's"),
             ("-a", "'-a' is no key of qemu's"),
             ("2.5:", "'2.5:' is no key of qemu's"),
-            ("x:ret", "'x' is no number of seconds above 0"),
-            (":ret", "'' is no number of seconds above 0"),
-            ("0:ret", "'0' is no number of seconds above 0"),
-            ("1:2:ret", "'1:2' is no number of seconds above 0"),
+            ("x:ret", "'x' .* above 0"),
+            (":ret", "'' .* above 0"),
+            ("0:ret", "'0' .* above 0"),
+            ("1:2:ret", "'1:2' .* above 0"),
         ):
             with self.subTest(word), self.assertRaisesRegex(
                 argparse.ArgumentTypeError, f"^{wanted}"

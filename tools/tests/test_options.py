@@ -55,8 +55,8 @@ class Options(Folder):
                     said = io.StringIO()
                     with contextlib.redirect_stderr(said), self.assertRaises(SystemExit):
                         self.parsed(words.format(number))
-                    told = f": '{number}' is no number from {least} to {most}\n"
-                    self.assertTrue(said.getvalue().endswith(told), said.getvalue())
+                    told = f": '{number}' .* from {least} to {most}\n$"
+                    self.assertRegex(said.getvalue(), told)
 
     def parsed(self, words: str) -> list[object]:
         """The values of words, each by itself."""

@@ -11,28 +11,21 @@ import unittest
 import zlib
 from pathlib import Path
 from typing import Iterator
-from unittest import mock
 
 from zaklimot import Script, format
-from zaklimot.commands.core.trouble import Wrong
 from zaklimot_dev.page.page import examples
 from zaklimot_dev.page.weighing import table_of, weights
 from zaklimot_dev.page.words import MOST_BYTES as MOST_PAGE_BYTES
-from zaklimot_dev.page_tests import command
 from zaklimot.commands.report.cases import read_cases
 from zaklimot.commands.report.places import SUITE
 from zaklimot.commands.script.words import FONTS
 
 from .tools import (
-    patched,
-    main_of,
     EXAMPLES,
     TOOLS,
     TOP,
     Folder,
-    call,
     ended,
-    hold_undone,
     png_chunks,
     run_program,
     run_tool,
@@ -332,42 +325,6 @@ class Tutorial(unittest.TestCase):
     def test_the_page_has_them_not_in_its_list(self) -> None:
         listed = {one["name"] for one in examples()}
         self.assertEqual({path.stem for path in SCRIPTS.iterdir()} & listed, set())
-
-    def test_the_check_in_a_browser_does_what_it_says(self) -> None:
-        first = ("opening", "tutorial", "browsers")
-        by_hand = ("keeping", "writing", "typing", "panes", "sidebyside", "asking", "running")
-        told = {
-            engine: "; ".join(f"{name}.mjs {engine}" for name in names)
-            for engine, names in (
-                ("chromium", first + by_hand),
-                ("firefox", first + by_hand),
-                ("webkit", first),
-            )
-        }
-        told["chromium"] += "; browser.mjs"
-        fake = mock.Mock(side_effect=lambda words, *_: " ".join([words[0].name, *words[1:]]) + "\n")
-        with mock.patch.object(command, "run_node", fake):
-            found = {engine: command.check_browser(engine) for engine in command.ENGINES}
-        self.assertEqual(found, told)
-        for words, *_ in (given.args for given in fake.call_args_list):
-            self.assertTrue(words[0].exists(), words[0])
-
-    def test_a_browser_that_is_not_there_is_told(self) -> None:
-        there = {"chromium-browser", "WebKitWebDriver", "node"}
-        fakes = {"check_browser": lambda engine: f"as it says in {engine}", "node_words": list}
-        which = mock.Mock()
-        with patched(command, fakes), mock.patch("shutil.which", which):
-            which.side_effect = there.__contains__
-            status, output, said = call(main_of("vga-page-tests"), "--browser")
-            self.assertEqual((status, said), (0, ""))
-            told = "firefox: not tried: install firefox-esr\nwebkit: not tried: install xvfb\n"
-            self.assertIn(told + "chromium: as it says in", output)
-            there.clear()
-            told = "no browser .*: for chromium install chromium; .* webkit2gtk-driver and xvfb\n$"
-            hold_undone(self, call(main_of("vga-page-tests"), "--browser"), told)
-            with mock.patch.object(command, "check_browser", side_effect=Wrong("the console")):
-                there.add("firefox")
-                self.assertEqual(call(main_of("vga-page-tests"), "--browser")[0], 1)
 
     def test_the_program_writes_the_script(self) -> None:
         environment = {**os.environ, "PYTHONPATH": str(TOP / "python")}

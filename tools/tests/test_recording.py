@@ -1,4 +1,4 @@
-"""Recordings: a machine's keys and screens, the verdicts on them, and the table of software."""
+"""Recordings: a machine's keys and screens, and the verdicts on them."""
 
 from __future__ import annotations
 
@@ -9,23 +9,17 @@ import os
 import sys
 import tempfile
 import time
-import unittest
-from collections import Counter
 from hashlib import sha256
 from pathlib import Path
-from types import SimpleNamespace as Namespace
 from typing import Any
 from unittest import mock
 
 from zaklimot.format import Picture
-from zaklimot_dev.emulators.traces import row as row_of
 from zaklimot.commands.trace import converting, keeper as keeping, recording
-from zaklimot.commands.trace.converting import Checked, Checking, Written
 from zaklimot.commands.trace.asked import Deed
 from zaklimot.commands.trace.note import Note, note_of
 from zaklimot.commands.trace.parts import Parts
 from zaklimot.commands.trace.recording import PHASES, QemuMachine, Session
-from zaklimot.commands.trace.replaying import Replay
 from zaklimot.commands.trace.trace import SCREEN
 
 from .tools import (
@@ -35,7 +29,6 @@ from .tools import (
     TOP,
     WHITE,
     Folder,
-    ended,
     hold_undone,
     png_rows,
     ppm,
@@ -488,18 +481,6 @@ class Recorded(Folder):
                 if note is not None:
                     self.write(f"{name}/recording.json", note)
                 hold_undone(self, run("record", self.folder / name, "--again", *program), told)
-        for words in (
-            ("--key", "ret"),
-            ("--screen", "1"),
-            ("--in-page", program[1]),
-            ("--chain-4",),
-            ("--beam",),
-            ("--polls", "keep"),
-            ("--card", "VGA"),
-            ("--", "-cdrom", "x"),
-        ):
-            given = ("record", self.folder, "--again", *words)
-            hold_undone(self, run(*given), "takes --vga and --fonts alone")
 
     def test_polls_are_folded_while_it_records(self) -> None:
         polls = b"".join(qemu("read 3da 1 1") for _ in range(5)) + qemu("read 3cc 67 1")
@@ -606,31 +587,6 @@ class Recorded(Folder):
         names = [f".dump.{number}.ppm" for number in range(2 * PHASES)]
         self.assertEqual([Path(name).name for name in dumps], names)
 
-    def test_what_is_told_of_an_early_end(self) -> None:
-        late = "before it was time for {}: the screen is taken now, and the rest left out".format
-        over, full = "1.5 seconds were over", "its trace can't be kept: oh"
-        last, fold = ": the last screen is taken now", "; --polls first folds polls"
-        keys = Deed(None, ("a", "ctrl-b"))
-        for deed, is_last, keeper, polls, told in (
-            (Deed(), True, ("", False), "keep", "the software was still busy when its screen"),
-            (Deed(9.0), False, ("", False), "keep", f"{over} {late('a screen')}"),
-            (keys, False, ("", False), "keep", f"{over} {late('the keys a,ctrl-b')}"),
-            (Deed(), True, (full, False), "keep", f"{full}{last}{fold}"),
-            (Deed(), False, (full, False), "first", f"{full}{last}"),
-            (keys, True, (full, True), "keep", f"{full}{fold}"),
-        ):
-            said: list[str] = []
-            session = Session(
-                QemuMachine((), most=1.5, polls=polls),
-                mock.Mock(),
-                mock.Mock(full=keeper[0], is_lost=keeper[1]),
-                Path("folder"),
-                mock.Mock(),
-            )
-            session._end_early(deed, is_last, said.append)
-            self.assertEqual([one[: len(told)] for one in said], [told])
-            self.assertEqual(session.note.ended, keeper[0] or over)
-
     def test_words_of_ones_own_come_last(self) -> None:
         machine = QemuMachine(("-m", "512", "-cdrom", "x"))
         words = recording._qemu(machine, self.folder)
@@ -665,26 +621,3 @@ class Recorded(Folder):
             "frame",
         ]
         self.assertEqual(listed(text, frames="screens"), steps)
-
-
-class Traces(unittest.TestCase):
-    def test_rows_and_whether_they_are_as_known(self) -> None:
-        verdict: Any = Namespace(held=Namespace(count=0))
-        written = Written(False, Counter({"out": 10, "frame": 1}), script_bytes=30)
-        checked = Checking()
-        checked.checked = Checked(reads=Counter(a=4, b=3))
-        listing: Any = Namespace(trace=Namespace(count=1000))
-        replayed = Replay(written, listing, Path(), (), checked, screens={0: verdict})
-        front = "| name | 1,000 | 11 | 30 | 46 | 7 | 0 | 0 |"
-        for dots, picture in ((0, "the same"), (8, "8 dots differ"), (None, "another size")):
-            verdict.held.differing = dots
-            self.assertEqual(row_of("name", replayed, 0, 8), (f"{front} {picture} |", dots == 8))
-
-    def test_the_command_tells_its_software(self) -> None:
-        status, told, _ = ended(sys.executable, PROGRAM, "record", "--help")
-        self.assertEqual((status, "grub-planar" in told), (0, True))
-        hold_undone(
-            self,
-            ended(sys.executable, PROGRAM, "record", "folder", "none"),
-            "there is no software none",
-        )

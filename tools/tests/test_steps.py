@@ -42,9 +42,6 @@ PAGE = TOP / "docs" / "STEPS.md"
 REGISTERS = {"seq": [3, 1, 15, 0, 6], "gfx": [0, 0, 0, 0, 0, 0, 5, 15, 255], "latches": [0] * 4}
 # The loaders that it shows, by the languages.
 LOADERS = {"python": "loader.py", "c": "loader.c", "cpp": "loader.cpp", "rust": "loader.rs"}
-# The examples have another seed, and a release yet another.
-EXAMPLE_SEED = 2
-EXAMPLE_COUNT = 20
 
 
 class Making(Made):
@@ -72,14 +69,14 @@ class Making(Made):
                 ("a", ()),
                 ("b", ("--jobs", 2)),
                 ("c", ("--plain",)),
-                ("d", ("--seed", 2)),
+                ("d", ("--seed", SEED + 1)),
             ):
                 given = ("--count", COUNT, "--seed", SEED, *words, "--only", kind)
                 status, output, said = steps("make", self.folder / folder, *given)
                 self.assertEqual((status, said), (0, ""))
                 made.append(Path(output.split()[0]))
             self.assertEqual(made[0].read_bytes(), made[1].read_bytes())
-            self.assertEqual(made[0].read_bytes(), self.files[kind].read_bytes())
+            self.assertEqual(told(made[0]), told(self.files[kind]))
             self.assertEqual((made[2].suffix, told(made[2])), (".json", told(made[0])))
             self.assertNotEqual(told(made[3]), told(made[0]))
 
@@ -99,7 +96,7 @@ class Making(Made):
 
     def test_the_examples_are_what_the_tool_makes(self) -> None:
         made = self.folder / "made"
-        words = ("--count", EXAMPLE_COUNT, "--seed", EXAMPLE_SEED, "--jobs", 4)
+        words = ("--count", COUNT, "--seed", SEED, "--jobs", 4)
         self.assertEqual(steps("make", made, *words)[0], 0)
         names = {path.name for path in STEPS_EXAMPLES.glob("*.json.gz")}
         self.assertEqual(names, {path.name for path in made.iterdir()})
@@ -109,7 +106,7 @@ class Making(Made):
     def test_what_cannot_be_made(self) -> None:
         hold_undone(self, steps("make", "x", "--only", "y"), "no kind has a name as --only wants")
         hold_undone(self, steps("make", self.write("file", "")), "it is not a folder")
-        hold_undone(self, steps("make", "x", "--count", "0"), "'0' is no number from 1 to ")
+        hold_undone(self, steps("make", "x", "--count", "0"), "'0' .* from 1 to ")
         with_library = {"ZAKLIMOT_LIBRARY": self.write("library", "no library")}
         with mock.patch.dict(os.environ, with_library):
             hold_undone(self, steps("make", self.folder / "x"), "it is no library of the adapter")

@@ -6,7 +6,8 @@ import unittest
 from typing import Callable
 
 from . import transcripts
-from .tools import want_program
+from .test_help import parsers_of
+from .tools import COMMAND, TOP, want_program
 
 
 class _Page(unittest.TestCase):
@@ -37,6 +38,18 @@ def _made() -> dict[str, type[_Page]]:
 
 
 globals().update(_made())
+
+
+class Commands(unittest.TestCase):
+    """A command of users has a transcript of its help, and a line on a page."""
+
+    def test_each_is_told(self) -> None:
+        shown = [path.read_text("utf-8") for path in transcripts.HERE.glob("*/*.md")]
+        pages = [path.read_text("utf-8") for path in (TOP / "docs").glob("*.md")]
+        for parser in parsers_of(COMMAND):
+            with self.subTest(parser.prog):
+                self.assertTrue(any(f"$ ./{parser.prog} --help\n" in text for text in shown))
+                self.assertTrue(any(parser.prog in text for text in pages))
 
 
 class Bless(unittest.TestCase):

@@ -74,11 +74,20 @@ def _flat(suite: Iterable[object]) -> Iterator[unittest.TestCase]:
             yield from _flat(one)
 
 
+def _named(loader: unittest.TestLoader, name: str) -> unittest.TestSuite:
+    """The tests of a name. A module that is skipped as a whole is one test."""
+    try:
+        return loader.loadTestsFromName(name)
+    except unittest.SkipTest as skipped:
+        methods = {name: unittest.skip(str(skipped))(lambda test: None)}
+        return unittest.TestSuite([type("ModuleSkipped", (unittest.TestCase,), methods)(name)])
+
+
 def _found(names: Sequence[str]) -> Batch:
     """The tests of modules, classes and methods of these names, or all."""
     loader = unittest.TestLoader()
     if names:
-        return list(_flat(loader.loadTestsFromNames(names)))
+        return list(_flat(_named(loader, name) for name in names))
     return list(_flat(loader.discover(str(HERE), top_level_dir=str(TOOLS))))
 
 
