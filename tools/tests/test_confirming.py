@@ -20,8 +20,10 @@ from .tools import takes_long
 # Kinds of which each number of a state differs in turn: with places, entries of the DAC, the beam,
 # BIOS data, and the sums of all memory.
 CHANGED = ("write-words", "dac-writes", "dots-text", "service-06", "service-00-mode-sets")
-# A list with more has places; no registers are so many.
+# A list with more has places; no registers are so many. Where the sums of all memory are told, each
+# number takes a tenth of a second.
 MOST_NUMBERS = 32
+MOST_NUMBERS_BESIDE_SUMS = 5
 # Dumped registers without the values of most, and a picture of one dot.
 SHOWN = "misc 00\nseq 00: 00\ncrtc 00: 00\ngfx 00: 00\nattr 00 i: 00\ndac 00 r FF 00 00"
 PICTURE = b"P6\n1 1\n63\n\1\2\3"
@@ -32,13 +34,14 @@ def examples(kind: str) -> Iterator[Element]:
     return read_elements(str(STEPS_EXAMPLES / f"{kind}.json.gz"))
 
 
-def numbers_in(value: Any) -> Iterator[tuple[Any, Any]]:
+def numbers_in(value: Any, most: int = MOST_NUMBERS) -> Iterator[tuple[Any, Any]]:
     """Each number in what JSON gives: the list or the object that has it, and its place there. Of a
-    long list of places these are the first and the last ones."""
+    list with more than so many these are the first and the last one."""
     keys = list(value if isinstance(value, dict) else range(len(value)))
-    for key in keys if len(keys) <= MOST_NUMBERS else (*keys[:4], *keys[-4:]):
+    is_long = isinstance(value, list) and len(keys) > most
+    for key in (keys[0], keys[-1]) if is_long else keys:
         if isinstance(value[key], (dict, list)):
-            yield from numbers_in(value[key])
+            yield from numbers_in(value[key], most)
         else:
             yield value, key
 
@@ -77,10 +80,13 @@ class Confirming(unittest.TestCase):
         element's script against what comes of that."""
         report = report_of(confirming(element).script)
         self.assertEqual([*differences(element, confirming(element).read(report))], [])
-        members = {name: element[name] for name in (INITIAL, FINAL, ANSWER) if name in element}
-        for value, key in numbers_in(members):
+        has_sums = SUMS in element[FINAL]
+        names = (FINAL, ANSWER) if has_sums else (INITIAL, FINAL, ANSWER)
+        members = {name: element[name] for name in names if name in element}
+        most = MOST_NUMBERS_BESIDE_SUMS if has_sums else MOST_NUMBERS
+        for value, key in numbers_in(members, most):
             # By the first number of a place it is looked for.
-            if isinstance(value, list) and key == 0 and self.is_place(value, members):
+            if isinstance(value, list) and key == 0 and self.is_place(value, element):
                 continue
             value[key] ^= 1
             self.assertTrue(self.told(element, report), (element["name"], key))
@@ -95,9 +101,9 @@ class Confirming(unittest.TestCase):
             return [str(error)]
 
     @staticmethod
-    def is_place(value: list[Any], members: Element) -> bool:
+    def is_place(value: list[Any], element: Element) -> bool:
         """Whether a list is a place of a state."""
-        states = (members[INITIAL], members[FINAL])
+        states = (element[INITIAL], element[FINAL])
         return any(
             value is one for state in states for name in PLACES for one in state.get(name, ())
         )

@@ -1,4 +1,4 @@
-"""How the tests and cases that ran are counted, however they ended."""
+"""Whether all that ran was right, however the tests and cases ended."""
 
 from __future__ import annotations
 
@@ -15,26 +15,14 @@ from .tools import hold, patched
 
 
 class Counted(unittest.TestCase):
-    def test_cases_and_tests_are_added_up(self) -> None:
-        both = Counts(1, 2, 3).beside(Counts(10, 20, 30))
-        self.assertEqual(both, Counts(11, 22, 33))
-        hold(
-            self,
-            str,
-            (
-                (both, "11 passed, 22 failed, 33 skipped"),
-                (Counts(0, 1), "0 passed, 1 failed"),
-            ),
-        )
-
     def test_whether_all_is_right(self) -> None:
         def status(suite: Counts, tests: Counts) -> int:
             given = {
                 "portable_program": lambda: "vga",
                 "check_suite": lambda _: suite,
-                "run_tests": lambda *_, **__: tests,
+                "run_tests": lambda *_: tests,
             }
-            words = argparse.Namespace(modules=[], all=False)
+            words = argparse.Namespace(modules=[])
             with patched(checking, given), contextlib.redirect_stdout(io.StringIO()):
                 return checking.check(words, Progress(False))
 

@@ -323,7 +323,7 @@ class Rules(Made):
         rule = next(one for one in RULES if "locks the palette" in one.name)
         behind = "10 to 14 change at any time"
         indexes: dict[bool, set[int]] = {False: set(), True: set()}
-        for element in self.elements("attribute-controller", 400):
+        for element in self.elements("attribute-controller", 1000):
             index = element[INITIAL]["attr_index"] & 0x1F
             for one, branch in branches_shown(element):
                 if one is rule:

@@ -561,11 +561,3 @@ class Running(Folder):
                 status, said = self.run_tests(one=two.format(name, line))
                 self.assertEqual(said.splitlines()[-1], counts)
                 self.assertEqual(status, int("1 failed" in counts or "2 failed" in counts))
-
-    def test_what_takes_long_is_left_out_and_counted(self) -> None:
-        marked = "pass\n    @tools.takes_long\n    def test_two(self): pass"
-        self.write("marked.py", TEST.format(marked))
-        found = unittest.TestLoader()
-        with mock.patch.object(sys, "path", [str(self.folder), *sys.path]):
-            tests = list(running._flat(found.loadTestsFromName("marked")))
-        self.assertEqual([running._is_long(test) for test in tests], [False, True])

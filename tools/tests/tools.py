@@ -219,7 +219,7 @@ def ended(*words: str | bytes | Path, **options: Any) -> tuple[int, Any, Any]:
 
 
 def takes_long(test: Marked) -> Marked:
-    """Marks a test, or a class of them, that takes long: `vga-check` leaves it to --all."""
+    """Marks a test, or a class of them, that takes long: it is begun first."""
     test.is_long = True
     return test
 

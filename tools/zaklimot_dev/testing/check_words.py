@@ -16,7 +16,7 @@ def _parser() -> argparse.ArgumentParser:
         "vga-check",
         (
             "Runs the suite and the tests of the tools over the portable program, which it compiles"
-            " once. Without --all it leaves out the tests that take longest."
+            " once."
         ),
         "tools/vga-check",
         "CONTRIBUTING.md",
@@ -24,8 +24,6 @@ def _parser() -> argparse.ArgumentParser:
     )
     told = "of the tests these modules alone, such as tests.test_trace (default: all)"
     parser.add_argument("modules", nargs="*", metavar="MODULE", help=told)
-    told = "runs the tests that take longest too, in 10 to 15 minutes on two processors"
-    cli.add(parser, "--all", told)
     parser.set_defaults(job=_job("check"))
     return parser
 

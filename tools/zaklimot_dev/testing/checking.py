@@ -50,7 +50,7 @@ def check(words: argparse.Namespace, progress: Progress) -> int:
     suite = check_suite(program)
     progress.clear()
     print(f"the suite over the portable program: {suite}", flush=True)
-    tests = run_tests(words.modules, program, progress, with_long=words.all)
+    tests = run_tests(words.modules, program, progress)
     both = suite.beside(tests)
     print(
         f"that took {time.monotonic() - begun:.0f} seconds; the program is tested by this, and not"

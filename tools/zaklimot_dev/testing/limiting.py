@@ -26,11 +26,13 @@ SKIPPED = "skipped"
 
 
 class Conclusion(NamedTuple):
-    """How a test ended: its name, and why it failed or was skipped."""
+    """How a test ended: its name, why it failed or was skipped, and how many seconds it has taken a
+    processor, with what set it up."""
 
     test: str
     how: str
     told: str = ""
+    seconds: float = 0
 
 
 class TookTooLong(Exception):
@@ -65,6 +67,12 @@ def _limit(test: unittest.TestCase) -> None:
     _limit_time(getattr(test, "most_seconds", MOST_SECONDS))
 
 
+def _processor_seconds() -> float:
+    """How long this process and those that it has started and that have ended took a processor."""
+    taken = os.times()
+    return taken.user + taken.system + taken.children_user + taken.children_system
+
+
 class _Result(unittest.TestResult):
     """Tells how each test ended as soon as it has."""
 
@@ -74,6 +82,7 @@ class _Result(unittest.TestResult):
         super().__init__()
         self._left = deque(tests)
         self._tell = tell
+        self._taken = _processor_seconds()
 
     def startTest(self, test: unittest.TestCase) -> None:
         """Tells of the tests before this one that could not be set up, and limits this one."""
@@ -108,12 +117,14 @@ class _Result(unittest.TestResult):
 
     def _tell_of(self, name: str) -> None:
         bad = [text for _, text in (*self.errors, *self.failures)]
+        before, self._taken = self._taken, _processor_seconds()
+        seconds = self._taken - before
         if bad:
-            self._tell(Conclusion(name, FAILED, "\n".join(bad)))
+            self._tell(Conclusion(name, FAILED, "\n".join(bad), seconds))
         elif self.skipped:
-            self._tell(Conclusion(name, SKIPPED, self.skipped[0][1]))
+            self._tell(Conclusion(name, SKIPPED, self.skipped[0][1], seconds))
         else:
-            self._tell(Conclusion(name, PASSED))
+            self._tell(Conclusion(name, PASSED, "", seconds))
 
     def _forget(self) -> None:
         for told in (self.errors, self.failures, self.skipped):

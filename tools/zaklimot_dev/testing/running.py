@@ -35,6 +35,9 @@ MOST_WORKERS = 4
 MOST_SECONDS = 7200
 # Seconds between two looks whether a process has ended that no longer tells anything.
 PAUSE = 0.2
+# So many tests that took longest are told, if they took a processor as many seconds.
+MOST_LONGEST = 5
+LEAST_LONGEST = 3
 # So much is shown of what tests print that have failed.
 MOST_SHOWN = 1 << 14
 FORKING = multiprocessing.get_context("fork")
@@ -61,7 +64,7 @@ class Counts(NamedTuple):
 
 
 def _is_long(test: unittest.TestCase) -> bool:
-    """Whether a test is marked as one that only a run of all tests has."""
+    """Whether a test is marked as one that takes long, and so is begun first."""
     method = getattr(type(test), getattr(test, "_testMethodName", ""), None)
     return bool(getattr(test, "is_long", False) or getattr(method, "is_long", False))
 
@@ -206,11 +209,15 @@ def _class_of(name: str) -> str:
 
 
 def _tell(conclusions: Iterable[Conclusion], total: int, progress: Progress) -> Counts:
-    """Tells what failed as it comes, at the end what was skipped; the counts."""
+    """Tells what failed as it comes, at the end what took longest and what was skipped; the
+    counts."""
     counts: Counter[str] = Counter()
     skipped: Counter[tuple[str, str]] = Counter()
+    longest: list[tuple[float, str]] = []
     for one in conclusions:
         counts[one.how] += 1
+        if one.seconds >= LEAST_LONGEST:
+            longest.append((one.seconds, one.test))
         if one.how == FAILED:
             progress.clear()
             print(f"failed  {one.test}\n{one.told.rstrip()}\n", flush=True)
@@ -220,6 +227,8 @@ def _tell(conclusions: Iterable[Conclusion], total: int, progress: Progress) -> 
             failed = f", {counts[FAILED]} failed" if counts[FAILED] else ""
             progress.tell(f"{sum(counts.values())} of {total} tests{failed}: {one.test}")
     progress.clear()
+    for seconds, name in sorted(longest, reverse=True)[:MOST_LONGEST]:
+        print(f"longest  {name}: {seconds:.1f} seconds of a processor")
     for (name, reason), count in sorted(skipped.items()):
         print(
             f"skipped  {name}, {count} tests: {reason}"
@@ -234,7 +243,6 @@ def run_tests(
     program: str,
     progress: Progress,
     is_built: bool = False,
-    with_long: bool = True,
 ) -> Counts:
     """Runs the tests of these names, or all, over a program, and tells which failed and which were
     skipped. All that they have started has ended afterwards."""
@@ -245,8 +253,7 @@ def run_tests(
     with tempfile.TemporaryDirectory(prefix="vga-tests-") as name:
         folder = Path(name)
         os.environ.update(_given(folder, program, is_built))
-        found = _found(names)
-        tests = [test for test in found if with_long or names or not _is_long(test)]
+        tests = _found(names)
         if not tests:
             raise Trouble("there is no test", " ".join(names) or str(HERE))
         # One module takes one processor: the gate runs other work beside it.
@@ -255,8 +262,6 @@ def run_tests(
             counts = _tell(_run_all(_batches(tests), jobs, folder), len(tests), progress)
         finally:
             end_children()
-    if len(tests) < len(found):
-        print(f"{len(found) - len(tests)} tests that take longer are left to --all")
     return counts
 
 
