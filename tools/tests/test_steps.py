@@ -95,6 +95,8 @@ class Making(Made):
             self.assertEqual(path.read_bytes()[:9], b"\x1f\x8b\x08\0\0\0\0\0\x02")
 
     def test_the_examples_are_what_the_tool_makes(self) -> None:
+        # Who names an element by its seed and its number finds it again in a later release. If you
+        # change what a seed makes, tell of it in CHANGELOG.md.
         made = self.folder / "made"
         words = ("--count", COUNT, "--seed", SEED, "--jobs", 4)
         self.assertEqual(steps("make", made, *words)[0], 0)
