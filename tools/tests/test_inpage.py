@@ -179,11 +179,11 @@ class Recorded(Folder):
 
     def test_several_scripts_are_all_judged(self) -> None:
         file = self.write("a.com", MANY)
-        words = ("--screen", "0.05", "--key", "0.36:a", "--screen", "0.38", "--speed", "8088")
+        words = ("--screen", "0.05", "--key", "0.09:a", "--screen", "0.1", "--speed", "8088")
         whole = self.record(file, *words, into="one")
         self.assertEqual(whole[0], 0)
         self.patch(
-            mock.patch.object(converting, "MOST_BYTES", 350_000),
+            mock.patch.object(converting, "MOST_BYTES", 160_000),
             mock.patch.object(replaying, "REST_OF_FRAME", 40_000),
         )
         parts = self.record(file, *words, into="two")

@@ -253,6 +253,18 @@ class Front(unittest.TestCase):
         self.assertIn(f"The page may have {MOST_PAGE_BYTES:,} bytes.", told)
 
 
+class Guests(unittest.TestCase):
+    """The guests whose calls take longest are those that the benchmark measures."""
+
+    def test_the_page_has_each_of_them(self) -> None:
+        asking = "import guests; print(*(one.words for one in guests.GUESTS), sep='\\n')"
+        status, measured, said = ended(sys.executable, "-Bc", asking, cwd=TOP / "bench")
+        self.assertEqual((status, said), (0, ""))
+        page = (TOP / "SECURITY.md").read_text("utf-8")
+        told = re.findall(r"(?m)^\| `zak_.* \| `([0-9A-F]{2}(?: \w+=[0-9A-F]+)*)` \|", page)
+        self.assertEqual(told, measured.splitlines())
+
+
 # The reference pages, and their sections that are examples and no rules.
 REFERENCE: dict[str, set[str]] = {
     "REGISTERS": set(),
