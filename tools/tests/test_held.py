@@ -68,7 +68,7 @@ TOY_FAULTS = (
     ("byte & KEPT[self.seq_index]", "byte", "sequencer", "sequencer registers"),
 )
 AGREE = f"{COUNT} elements: {COUNT} agree, 0 differ"
-STRICT = ("-O2", "-Wall", "-Wextra", "-Werror")
+STRICT = ("-Wall", "-Wextra", "-Werror")
 # What compiles a loader, a file of the library that it takes, Debian's package for that, and words.
 COMPILED = {
     "loader.c": (("gcc", *STRICT), "/usr/include/jansson.h", "libjansson-dev", ("-ljansson",)),
