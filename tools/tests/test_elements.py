@@ -4,8 +4,10 @@ the middle, what the library refuses, and what is told of coverage and of machin
 from __future__ import annotations
 
 import gzip
+import hashlib
 import json
 import os
+import re
 import unittest
 from pathlib import Path
 from unittest import mock
@@ -14,14 +16,14 @@ from xml.etree import ElementTree
 from zaklimot.format import Step
 from zaklimot.commands.script.words import FONTS
 from zaklimot.commands.script import library
-from zaklimot.commands.steps import asking
+from zaklimot.commands.steps import archive, asking
 from zaklimot.commands.steps.adapter import SteppedCard
 from zaklimot.commands.steps.library import load
 from zaklimot.commands.steps.parts import FINAL, Element
 from zaklimot.commands.steps.reading import read_elements
 
 from .stepping import GOOD, STEPS_EXAMPLES, steps
-from .tools import Folder, hold_refused, hold_undone, refused, run_tool, takes_long
+from .tools import Folder, begin, hold_refused, hold_undone, refused, run_tool, takes_long
 
 SEQUENCER = STEPS_EXAMPLES / "sequencer.json.gz"
 MASKS = STEPS_EXAMPLES / "dac-mask.json.gz"
@@ -98,6 +100,32 @@ class Asking(Elements):
         self.assertEqual(lines[2], f"  the first that differs is element 0, {first['name']}")
         self.assertEqual(lines[-1], "40 elements: 39 agree, 1 differ")
         self.assertNotIn("of all files", output)
+
+    def test_a_file_comes_into_a_pipe_before_the_next_one_ends(self) -> None:
+        go_on = self.folder / "go on"
+        answer = 'read line && echo "{\\"skipped\\": true}"'
+        # The second time it waits for the file.
+        wait = f"test ! -e begun || until test -e '{go_on}'; do sleep 0.05; done\n>begun\n"
+        answers = f"for i in $(seq 20); do {answer}; done\n"
+        command = self.program("adapter", f"#!/bin/sh\n{wait}{answers}")
+        words = ("steps", "check", command, str(SEQUENCER), str(MASKS))
+        with begin("zaklimot", *words, cwd=self.folder) as process:
+            assert process.stdout is not None
+            line = process.stdout.readline()
+            go_on.touch()
+            rest = process.communicate(timeout=60)[0]
+        self.assertEqual(line.decode(), f"{SEQUENCER}: 20 skipped\n")
+        self.assertTrue(rest.decode().startswith(f"{MASKS}: 20 skipped\n"), rest)
+
+    def test_the_first_element_that_differs_may_end_all(self) -> None:
+        changed = self.changed("dac-mask.json", MASKS)
+        command = self.knowing(changed, SEQUENCER)
+        status, output, said = steps("check", command, MASKS, SEQUENCER, "--fail-fast")
+        lines = output.splitlines()
+        self.assertEqual((status, said, lines[0]), (1, "", f"{MASKS}: 1 differ"))
+        self.assertEqual(lines[-1], "1 element: 0 agree, 1 differ; the others were not run")
+        words = ("check", command, changed, SEQUENCER)
+        self.assertEqual(steps(*words, "--fail-fast"), steps(*words))
 
     def changed(self, name: str, path: Path) -> str:
         """A file whose first element has another state at the end."""
@@ -225,9 +253,70 @@ class Making(Elements):
                 # The first elements of a seed are the same, however many follow.
                 example = next(iter(read_elements(str(STEPS_EXAMPLES / f"{name}.gz"))))
                 self.assertEqual(found[0], example)
-        self.assertEqual(
-            sorted(path.name for path in (self.folder / "made").iterdir()), wanted[::-1]
-        )
+        beside = ["README.md", "SHA256SUMS", "about"]
+        made = sorted(path.name for path in (self.folder / "made").iterdir())
+        self.assertEqual(made, beside + wanted[::-1])
+
+    def made(self, *words: str | int) -> tuple[dict[str, bytes], str]:
+        """The files that lie in the folder then, and what is said."""
+        status, _, said = steps("make", self.folder / "made", "--plain", "--seed", 2, *words)
+        self.assertEqual(status, 0, said)
+        folder = self.folder / "made"
+        paths = (path for path in folder.rglob("*") if path.is_file())
+        return {str(path.relative_to(folder)): path.read_bytes() for path in paths}, said
+
+    def test_what_is_there_stays_and_what_is_not_is_made(self) -> None:
+        words: tuple[str | int, ...] = ("--count", 3, "--only", "dac")
+        whole, said = self.made(*words)
+        self.assertEqual(said, "")
+        masks, reads = (self.folder / "made" / f"dac-{name}.json" for name in ("mask", "reads"))
+        masks.unlink()
+        reads.write_bytes(reads.read_bytes().replace(b"1", b"2", 1))
+        self.assertEqual(self.stayed(words), "1 of 3")
+        self.assertEqual(self.made(*words)[0], whole)
+        # As after an interrupt, before the last files were written.
+        (self.folder / "made" / "README.md").unlink()
+        self.assertEqual(self.made(*words)[0], whole)
+        self.assertEqual(self.stayed(("--count", 2, "--only", "dac-m")), "")
+        self.assertEqual(self.stayed((*words, "--jobs", 2)), "2 of 3")
+        with mock.patch.object(archive, "_maker", return_value="another"):
+            self.assertEqual(self.stayed(words), "")
+
+    def stayed(self, words: tuple[str | int, ...]) -> str:
+        """How many files are not made again; empty where all are."""
+        found = re.fullmatch("zaklimot: (.*) files? stayed: .*\n|", self.made(*words)[1])
+        assert found is not None
+        return found[1] or ""
+
+    def test_the_index_and_the_checksums_are_those_of_the_files(self) -> None:
+        files, _ = self.made("--count", 3, "--only", "dac", "--only", "clock")
+        index = json.loads(files["about/index.json"])
+        self.assertEqual(index["format"], 1)
+        listed = {one["file"]: one for one in index["files"]}
+        elements = {name for name in files if name.endswith(".json") and "/" not in name}
+        self.assertEqual(set(listed), elements)
+        for name, one in listed.items():
+            self.assertEqual(one["elements"], len(json.loads(files[name])))
+            self.assertEqual((one["bytes"], one["seed"]), (len(files[name]), 2))
+            self.assertIn(f"| `{name}` | 3 | 2 | ", files["README.md"].decode())
+        sums = [line.split("  ") for line in files["SHA256SUMS"].decode().splitlines()]
+        found = {name: hashlib.sha256(data).hexdigest() for name, data in files.items()}
+        del found["SHA256SUMS"]
+        self.assertEqual({name: checksum for checksum, name in sums}, found)
+
+    def test_what_is_not_ours_is_not_replaced(self) -> None:
+        words = ("make", self.folder, "--only", "dac-mask", "--count", 1)
+        for name in ("README.md", "SHA256SUMS", "about/note"):
+            path = Path(self.write(name, "mine"))
+            told = f"would replace {name.partition('/')[0]}, which it has not made"
+            hold_undone(self, steps(*words), told)
+            self.assertEqual(path.read_text(), "mine")
+            path.unlink()
+        (self.folder / "about").rmdir()
+        entry = {"file": "../a", "kind": "", "elements": 1, "seed": 1, "bytes": 1}
+        for files in ("5", "[5]", "[{}]", json.dumps([{**entry, "sha256": "", "made_by": ""}])):
+            self.write("about/index.json", f'{{"files": {files}}}')
+            hold_undone(self, steps(*words), "index.json: it is no index of single-step tests")
 
     def test_a_folder_that_was_made_in_vain_is_gone(self) -> None:
         with mock.patch.dict(os.environ, ZAKLIMOT_LIBRARY=self.write("library", "none")):

@@ -17,7 +17,15 @@ from zaklimot.commands.core.processes import Streamed
 from zaklimot.commands.core.progress import Progress
 from zaklimot.commands.report import folders, suite
 from zaklimot.commands.report.listing import RunScript
-from zaklimot.commands.report.suite import AGREES, DIFFERS, FAILED, SKIPPED, Result, _worst
+from zaklimot.commands.report.results import (
+    AGREES,
+    DIFFERS,
+    FAILED,
+    SKIPPED,
+    Result,
+    _worst,
+    rules_of,
+)
 from zaklimot.commands.words import parser
 from zaklimot.commands.script import launching, program
 from zaklimot.commands.script.program import (
@@ -28,7 +36,7 @@ from zaklimot.commands.script.program import (
     fault_of,
 )
 
-from .tools import TOOLS, Folder, hold, patched, refused, report, run_tool, stream
+from .tools import TOOLS, Folder, begin, hold, patched, refused, report, run_tool, stream
 
 ADAPTER = shlex.join([sys.executable, str(TOOLS / "tests" / "adapter.py")])
 CALLED = "1 ax=0003 bx=0000 cx=0000 dx=0000\n"
@@ -51,11 +59,47 @@ class Harnesses(Folder):
 
     def test_cases_in_no_folder(self) -> None:
         table = (
-            ". (2 cases: 2 agree)\n  agrees   one\n  agrees   two\n"
-            "more (1 case: 1 agree)\n  agrees   more/three\n3 cases: 3 agree\n"
+            ".\n  agrees   one\n  agrees   two\n  2 cases: 2 agree\n"
+            "more\n  agrees   more/three\n  1 case: 1 agree\n3 cases: 3 agree\n"
         )
         done = self.done("suite", f"{ADAPTER} {{script}}", "--list", "list.txt")
         self.assertEqual(done, (0, table, ""))
+
+    def test_a_result_comes_into_a_pipe_before_the_next_case_ends(self) -> None:
+        go_on = self.folder / "go on"
+        # The second case ends once the file is there.
+        command = "sh -c 'test $1 = one || until test -e \"$2\"; do sleep 0.05; done; echo 1 FF' "
+        words = ("suite", f"{command} x {{name}} '{go_on}'", "--list", self.folder / "list.txt")
+        with begin("zaklimot", *words) as process:
+            assert process.stdout is not None
+            lines = [process.stdout.readline() for _ in range(2)]
+            go_on.touch()
+            rest = process.communicate(timeout=60)[0]
+        self.assertEqual(lines, [b".\n", b"  agrees   one\n"])
+        self.assertTrue(rest.startswith(b"  agrees   two\n"), rest)
+
+    def test_the_first_case_that_does_not_agree_may_end_all(self) -> None:
+        self.write("two.txt", "1 00\n")
+        words = ("suite", f"{ADAPTER} {{script}}", "--list", "list.txt")
+        differs = "  differs  two\n           two: step 1: FF, not 00 (`get 0`, two.vga:1)\n"
+        for jobs in ("1", "3"):
+            done = self.done(*words, "--fail-fast", "--jobs", jobs, "--keep", f"kept{jobs}")
+            self.assertEqual(
+                done,
+                (
+                    1,
+                    f".\n  agrees   one\n{differs}  2 cases: 1 agree, 1 differ\n"
+                    "2 of 3 cases: 1 agree, 1 differ\n",
+                    "",
+                ),
+            )
+            kept = {path.stem for path in (self.folder / f"kept{jobs}").iterdir()}
+            self.assertEqual(kept, {"two"})
+        told = json.loads(self.done(*words, "--fail-fast", "--json")[1])
+        self.assertEqual((told["cases"]["agrees"], told["not_run"]), (1, 1))
+        self.assertEqual(json.loads(self.done(*words, "--json")[1])["not_run"], 0)
+        self.write("two.txt", "1 FF\n")
+        self.assertEqual(self.done(*words, "--fail-fast"), self.done(*words))
 
     def test_places_within_words(self) -> None:
         for place, told in (
@@ -122,9 +166,10 @@ class Harnesses(Folder):
         self.write("list.txt", "a/b/one\na/b/two\na/c\n")
         words = ("suite", f"{ADAPTER} {{script}}", "--list", "list.txt")
         table = (
-            "a/b (2 cases: 1 agree, 1 differ)\n  differs  Rule.\n"
+            "a/b\n  differs  Rule.\n"
             "           a/b/one: step 1: FF, not 00 (`get 0`, a/b/one.vga:2)\n"
-            "a (1 case: 1 agree)\n  agrees   Rule.\n3 cases: 2 agree, 1 differ\n"
+            "  2 cases: 1 agree, 1 differ\n"
+            "a\n  agrees   Rule.\n  1 case: 1 agree\n3 cases: 2 agree, 1 differ\n"
         )
         self.assertEqual(self.done(*words), (1, table, ""))
         told = json.loads(self.done(*words, "--json")[1])
@@ -144,14 +189,14 @@ class Harnesses(Folder):
     def test_which_answers_are_worse_than_others(self) -> None:
         order = (AGREES, SKIPPED, DIFFERS, FAILED)
         for one, other in product(order, repeat=2):
-            results = [Result(mock.Mock(), "A rule.", answer) for answer in (one, other)]
+            results = [Result(mock.Mock(), answer) for answer in (one, other)]
             self.assertEqual(_worst(results), max(one, other, key=order.index), (one, other))
 
     def test_an_expected_report_that_is_damaged(self) -> None:
         self.write("two.txt", "1 FF\n3 ok\n")
         done = self.done("suite", f"{ADAPTER} {{script}}", "--list", "list.txt")
         told = f"{self.folder}/two.txt:2: step 2 is to come, and not '3 ok'"
-        self.assertEqual(done, (2, "", f"zaklimot: {told}\n"))
+        self.assertEqual(done, (2, ".\n  agrees   one\n", f"zaklimot: {told}\n"))
 
     def test_a_command_that_stops_before_the_first_step(self) -> None:
         self.write("one.txt", "")
@@ -187,7 +232,7 @@ class Harnesses(Folder):
         words = ("suite", f"{ADAPTER} {{script}} {{until}}", "--machine", "--list", "list.txt")
         status, output, said = self.done(*words)
         self.assertEqual((status, said), (0, ""))
-        self.assertIn("(3 cases: 1 agree, 2 skipped)\n", output)
+        self.assertIn("\n3 cases: 1 agree, 2 skipped\n", output)
 
     def test_a_machine_answers_calls(self) -> None:
         self.write("call.vga", "int ax=3\nget 0\n")
@@ -294,7 +339,7 @@ class Progresses(Folder):
         cases = self.write("list.txt", "a\nb\nc\nd\ne\n")
         given = ["suite", f"cat {self.folder}/{{name}}.report", "--list", cases]
         words = parser().parse_args(given)
-        suite._results(words, suite._chosen(words), self.progress)
+        list(suite._results(words, rules_of(suite._chosen(words)), self.progress))
         wanted = [
             "1 of 5 cases, 0 don't agree: a",
             "2 of 5 cases, 1 doesn't agree: b",

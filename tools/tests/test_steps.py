@@ -4,6 +4,7 @@ show."""
 from __future__ import annotations
 
 import gzip
+import importlib
 import json
 import os
 import re
@@ -19,6 +20,7 @@ from unittest import mock
 
 from zaklimot.format import Step, decode
 from zaklimot.commands.steps.adapter import SteppedCard
+from zaklimot.commands.steps.arrays import ArrayReader
 from zaklimot.commands.steps.chance import Chance
 from zaklimot.commands.steps.comparing import differences
 from zaklimot.commands.steps.kinds import KINDS
@@ -27,6 +29,7 @@ from zaklimot.commands.steps.parts import BDA, BEAM, FINAL, INITIAL, ORDER, Elem
 from zaklimot.commands.steps.readback import readback_lines
 from zaklimot.commands.steps.reading import STEPS, fault_of, read_elements
 from zaklimot.commands.steps.rules import RULES, branches_shown
+from zaklimot.commands.steps.schema import schema
 from zaklimot.commands.steps.scripts import expected_answer, reached, text_lines
 from zaklimot_dev.release.coverage import counted_file, seldom_shown
 from zaklimot.commands.script.words import FONTS
@@ -101,7 +104,7 @@ class Making(Made):
         words = ("--count", COUNT, "--seed", SEED, "--jobs", 4)
         self.assertEqual(steps("make", made, *words)[0], 0)
         names = {path.name for path in STEPS_EXAMPLES.glob("*.json.gz")}
-        self.assertEqual(names, {path.name for path in made.iterdir()})
+        self.assertEqual(names, {path.name for path in made.glob("*.json.gz")})
         for name in sorted(names):
             self.assertEqual(told(STEPS_EXAMPLES / name), told(made / name), name)
 
@@ -396,22 +399,80 @@ class Files(Folder):
             self,
             self.read,
             (
-                ("", "file: it ends before its array does$"),
-                ("x", "file:1: it is no file of elements: its first line is not \\[$"),
+                ("", "file:1: it is no file of elements: it doesn't begin with \\[$"),
+                ("x", "file:1: it is no file of elements: it doesn't begin with \\[$"),
                 ("[\n", "file:1: it ends before its array does$"),
                 (f"[\n{good}", "file:2: it ends before its array does$"),
-                ("[\n{\n]", "file:2: it is no JSON: "),
+                (f"[\n{good},\n", "file:2: it ends before its array does$"),
+                (f"[\n{good[:-9]}", "file:2: it is no JSON: |file:2: it ends before its array"),
+                (f"[\n{good}\n{good}]", "file:3: neither , nor \\] stands after an element$"),
+                (f"[\n{good},\n]", "file:3: it is no JSON: Expecting value at column 1$"),
+                ("[\n{\n]", "file:3: it is no JSON: Expecting property name .* at column 1$"),
                 ("[\n" + "[" * 100_000 + "\n]", "file:2: it is no JSON: "),
+                (f"[{'9' * 5_000}]", "file:1: it is no "),
                 ("[\n5\n]", "file:2: it is no object$"),
+                (f"[\n{good},\n\n\n{{}}]", "file:5: one member is its step"),
                 (f"[\n{good}\n]\n{good}", "file:4: something stands after the array$"),
+                (b'[\n\n"\xff', "file:3: it is no UTF-8$"),
                 (packed[:-20], "file: it is damaged: "),
                 (packed[:30] + b"x" * 30, "file: it is damaged: "),
-                ("[\n" + " " * (1 << 22) + "\n]", "file:2: the line has 4,194,304 bytes or more$"),
+                ("[\n" + " " * (1 << 23) + "\n]", "file:1: an element has 4,194,304 characters "),
+                ("[\n[" + "1," * (1 << 21), "file:2: an element has 4,194,304 characters or mor"),
             ),
         )
         self.assertEqual(self.read(packed), [GOOD])
         self.assertEqual(self.read("[\n]\n"), [])
         self.assertEqual(self.read(f"[\n{good},\n{good}\n]\n"), [GOOD, GOOD])
+
+    def test_the_schema_takes_what_is_read_and_nothing_else(self) -> None:
+        try:
+            jsonschema: Any = importlib.import_module("jsonschema")
+        except ImportError:
+            self.skipTest("this Python has no jsonschema: install python3-jsonschema")
+        form = schema()
+        judge = jsonschema.Draft202012Validator(form)
+        judge.check_schema(form)
+        chance, bad = Chance("schema"), 0
+        for path in sorted(STEPS_EXAMPLES.glob("*.json.gz")):
+            element = next(iter(read_elements(str(path))))
+            self.assertEqual([*judge.iter_errors([element])], [], path)
+            for _ in range(8):
+                other = json.loads(json.dumps(element))
+                change(chance, other)
+                # What the schema refuses, a reader of files refuses too.
+                if not judge.is_valid([other]):
+                    bad += 1
+                    self.assertTrue(fault_of(other), other)
+        self.assertGreater(bad, 100)
+
+    def test_any_layout_is_read(self) -> None:
+        # So many that they are read part by part.
+        many = [{**GOOD, "name": f'{number} {{["\\'} for number in range(2_000)]
+        layouts: tuple[dict[str, Any], ...] = (
+            {},
+            {"separators": (",", ":")},
+            {"indent": 4},
+            {"indent": "\t", "separators": ("\r\n,", "\n : ")},
+        )
+        for layout in layouts:
+            text = json.dumps(many, **layout)
+            for whole in (text, f"\n \t{text}\r\n", "\ufeff" + text):
+                self.assertEqual(self.read(whole.encode()), many, layout)
+        self.assertEqual(self.read(" [ ] ".encode()), [])
+
+    def test_a_pipe_that_gives_little_at_a_time(self) -> None:
+        text = json.dumps([GOOD, GOOD], indent=1).encode()
+        told: list[object] = []
+        reading, writing = os.pipe()
+        with open(reading, "rb") as stream, open(writing, "wb", buffering=0) as given:
+            values = ArrayReader(stream, "pipe").values()
+            half = text.index(b"},\n {") + 2
+            given.write(text[:half])
+            told.append(next(values))
+            given.write(text[half:])
+            given.close()
+            told += values
+        self.assertEqual(told, [GOOD, GOOD])
 
     def test_what_is_no_element(self) -> None:
         def changed(**members: Any) -> Element:

@@ -13,7 +13,7 @@ from zaklimot.commands.core.files import STANDARD, name_of
 from zaklimot.commands.core.streams import read_at_most, write_over
 from zaklimot.commands.core.trouble import Trouble
 from zaklimot.commands.floppy.running import MACHINES
-from zaklimot.commands.report.suite import AGREES, DIFFERS, FAILED, SKIPPED
+from zaklimot.commands.report.results import AGREES, DIFFERS, FAILED, SKIPPED
 
 
 FIRST_MARK = (

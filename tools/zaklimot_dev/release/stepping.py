@@ -82,11 +82,11 @@ def make_steps(
         words: list[Word] = [sys.executable, *TOOL, "make", folder]
         words += ["--count", str(count), "--seed", seed]
         run([*words, "--jobs", str(JOBS)], heard=heard, environment={NAMED: str(path)})
-        paths = sorted(folder.iterdir())
         if count >= COUNT:
-            for told in seldom_shown(paths, JOBS):
+            for told in seldom_shown(sorted(folder.glob("*.json.gz")), JOBS):
                 raise Trouble(f"the elements show a branch too seldom: {told}")
-        files = {f"{STEPS}/{path.name}": path.read_bytes() for path in paths}
+        paths = (path for path in sorted(folder.rglob("*")) if path.is_file())
+        files = {f"{STEPS}/{path.relative_to(folder)}": path.read_bytes() for path in paths}
     size = sum(map(len, files.values()))
     if size > MOST_BYTES:
         raise Trouble(f"the elements have {size:,} bytes, and {MOST_BYTES:,} are the most")

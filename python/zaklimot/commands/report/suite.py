@@ -4,25 +4,22 @@ import argparse
 import io
 import re
 import tempfile
-from contextlib import suppress
-from dataclasses import dataclass, field
+from contextlib import closing, suppress
+from itertools import islice
 from pathlib import Path
 from threading import Event
-from typing import BinaryIO, Iterator, NamedTuple, Optional, Sequence
+from typing import Generator, Iterator, Optional, Sequence
 
 from zaklimot.format import FAULT, MOST_BYTES, Answer, Picture
-from zaklimot.commands.core.files import STANDARD, name_of
+from zaklimot.commands.core.files import name_of
 from zaklimot.commands.core.processes import Limits, command_words, in_parallel, run_command
 from zaklimot.commands.core.progress import Progress
 from zaklimot.commands.core.streams import (
     bytes_of,
-    JsonList,
     counted,
     empty_folder,
-    write,
     write_file,
     write_name,
-    writing,
 )
 from zaklimot.commands.core.trouble import AGREED, DIFFERED, TROUBLE, Trouble
 from zaklimot.commands.core.words import MEBIBYTE
@@ -31,16 +28,20 @@ from zaklimot.commands.images.png import save_png
 from .cases import Case, printable, read_cases
 from .places import LIST
 from .report import Comparison, Report
+from .results import (
+    AGREES,
+    DIFFERS,
+    FAILED,
+    SKIPPED,
+    FirstDifference,
+    Result,
+    Rule,
+    Table,
+    opened_table,
+    rules_of,
+)
 
 
-AGREES = "agrees"
-SKIPPED = "skipped"
-DIFFERS = "differs"
-FAILED = "failed"
-# The answers from the best to the worst, as they are counted. A rule has the worst answer of its
-# cases.
-COUNTED = {AGREES: "agree", SKIPPED: "skipped", DIFFERS: "differ", FAILED: "failed"}
-ANSWERS = tuple(COUNTED)
 # What messages call the report of a case.
 REPORT_NAME = "its report"
 PLACE = re.compile(r"\{(script|fonts|name)\}")
@@ -48,47 +49,6 @@ UNTIL = "{until}"
 NO_ANSWERS = "all that it asks is a picture, a dump, a refusal or a fault of the script"
 # So many of the first lines that a command says are shown, and of the last.
 SHOWN_LINES = 10
-
-
-class FirstDifference(NamedTuple):
-    """The step that differs first, by its number, 0 where a fault stands in the place of steps; and
-    both answers. The names are those of the JSON."""
-
-    step: int
-    answered: str
-    expected: str
-
-
-@dataclass
-class Result:
-    """What came of a case: its answer, why it doesn't agree, the step that differs first, and what
-    was compared."""
-
-    case: Case
-    rule: str
-    answer: str = AGREES
-    reason: str = ""
-    first: Optional[FirstDifference] = None
-    comparison: Comparison = field(default_factory=Comparison)
-
-    def told(self) -> dict[str, object]:
-        """The same for machines."""
-        counts = {
-            name: getattr(self.comparison, name)
-            for name in ("steps", "skipped", "answers", "differing")
-        }
-        told: dict[str, object] = {
-            "name": self.case.name,
-            "rule": self.rule,
-            "answer": self.answer,
-            **counts,
-            **(self.first._asdict() if self.first is not None else {}),
-        }
-        return {**told, "reason": self.reason} if self.answer != AGREES else told
-
-
-# The results of a folder's rules.
-Rules = dict[str, dict[str, list[Result]]]
 
 
 class Command:
@@ -119,24 +79,20 @@ def suite(words: argparse.Namespace, progress: Progress) -> int:
         return write_scripts(words)
     if words.keep is not None:
         empty_folder(words.keep)
-    results = _results(words, _chosen(words), progress)
-    progress.clear()
-    rules: Rules = {}
-    for result in results:
-        rules.setdefault(result.case.name.rpartition("/")[0], {}).setdefault(
-            result.rule, []
-        ).append(result)
-    if words.json:
-        with writing(STANDARD) as stream:
-            _write_json(stream, words.command, rules, results)
-    else:
-        write(
-            "".join(
-                f"{line}\n" for group, some in rules.items() for line in _group_lines(group, some)
-            )
-        )
-        write(_counts_text(results) + "\n")
-    return _status(_counts(results))
+    rules = rules_of(_chosen(words))
+    with opened_table(rules, words) as table:
+        _fill(table, rules, words, progress)
+    return _status(table.counts())
+
+
+def _fill(table: Table, rules: list[Rule], words: argparse.Namespace, progress: Progress) -> None:
+    """Runs the cases, and adds each rule to the table once all of its cases have run."""
+    with closing(_results(words, rules, progress)) as found:
+        for rule in rules:
+            results = list(islice(found, len(rule.cases)))
+            progress.clear()
+            if results:
+                table.add(rule, results)
 
 
 def _status(counts: dict[str, int]) -> int:
@@ -160,36 +116,41 @@ def _chosen(words: argparse.Namespace) -> list[Case]:
     return cases
 
 
-def _results(words: argparse.Namespace, cases: list[Case], progress: Progress) -> list[Result]:
+def _results(
+    words: argparse.Namespace, rules: list[Rule], progress: Progress
+) -> Generator[Result, None, None]:
+    """What comes of each case, in the order of the rules. With --fail-fast it ends with the first
+    case that doesn't agree."""
     is_ended = Event()
-    results = []
     commands = [None if given is None else Command(given) for given in (words.command, words.bytes)]
+    cases = [case for rule in rules for case in rule.cases]
 
     def run_one(case: Case) -> Result:
         return _run_case(case, commands[case.is_bytes], words, is_ended)
 
+    wrong = 0
     with in_parallel(run_one, cases, words.jobs, is_ended) as found:
-        for result in found:
-            results.append(result)
+        for count, result in enumerate(found, 1):
+            wrong += result.is_wrong
             if progress.is_due():
-                counts = _counts(results)
-                wrong = counts[DIFFERS] + counts[FAILED]
                 do_not = "doesn't" if wrong == 1 else "don't"
-                cases_run = f"{len(results)} of {counted(len(cases), 'case')}"
+                cases_run = f"{count} of {counted(len(cases), 'case')}"
                 progress.tell(f"{cases_run}, {wrong} {do_not} agree: {result.case.name}")
-    return results
+            yield result
+            if wrong and words.fail_fast:
+                return
 
 
 def _run_case(
     case: Case, command: Optional[Command], words: argparse.Namespace, is_ended: Event
 ) -> Result:
     if command is None:
-        return Result(case, case.rule(), SKIPPED, "the script is bytes, and --bytes has no command")
+        return Result(case, SKIPPED, "the script is bytes, and --bytes has no command")
     if case.is_bytes and case.until is not None and not command.can_stop:
-        return Result(case, case.rule(), SKIPPED, f"the command of --bytes has no {UNTIL}")
+        return Result(case, SKIPPED, f"the command of --bytes has no {UNTIL}")
     if words.machine and not case.has_answers_of_machine():
-        return Result(case, case.rule(), SKIPPED, NO_ANSWERS)
-    result = Result(case, case.rule(), comparison=Comparison(words.refusals, words.machine, True))
+        return Result(case, SKIPPED, NO_ANSWERS)
+    result = Result(case, comparison=Comparison(words.refusals, words.machine, True))
     limits = Limits(words.timeout, words.output * MEBIBYTE)
     with tempfile.TemporaryDirectory(prefix="zaklimot-") as name:
         script, report, messages = (
@@ -202,7 +163,8 @@ def _run_case(
             result.reason = outcome.reason + _said_text(messages)
         else:
             _judge(result, outcome.status, report, messages)
-        if words.keep is not None and result.answer in (DIFFERS, FAILED):
+        # One that was ended since another has failed says nothing.
+        if words.keep is not None and result.is_wrong and not is_ended.is_set():
             _keep(
                 Path(words.keep, case.name),
                 case,
@@ -223,7 +185,7 @@ def _judge(result: Result, status: int, report: Path, messages: Path) -> None:
         line = io.BytesIO(f"{fault[0]}\n".encode())
         # What `BufferedReader` asks of a stream, bytes in memory have too.
         _compare(result, io.BufferedReader(line))  # type: ignore[arg-type]
-    if status and fault is None and not (has_report and result.answer in (DIFFERS, FAILED)):
+    if status and fault is None and not (has_report and result.is_wrong):
         result.answer = FAILED
         result.reason = f"the command ended with status {status}" + _said_text(messages)
 
@@ -323,43 +285,3 @@ def _copied(font: Path, folder: Path, taken: Sequence[str]) -> str:
     (folder / "fonts").mkdir(exist_ok=True)
     write_file(str(folder / name), bytes_of(font, MOST_BYTES))
     return name
-
-
-def _worst(results: list[Result]) -> str:
-    return max((result.answer for result in results), key=ANSWERS.index)
-
-
-def _counts(results: list[Result]) -> dict[str, int]:
-    return {answer: sum(result.answer == answer for result in results) for answer in ANSWERS}
-
-
-def _counts_text(results: list[Result]) -> str:
-    parts = [f"{count} {COUNTED[answer]}" for answer, count in _counts(results).items() if count]
-    return f"{counted(len(results), 'case')}: " + ", ".join(parts)
-
-
-def _group_lines(group: str, rules: dict[str, list[Result]]) -> Iterator[str]:
-    yield f"{group or '.'} ({_counts_text(sum(rules.values(), []))})"
-    for rule, results in rules.items():
-        yield f"  {_worst(results):8} {rule}"
-        for result in results:
-            if result.answer != AGREES:
-                yield f"           {result.case.name}: " + result.reason.replace(
-                    "\n", "\n           "
-                )
-
-
-def _write_json(stream: BinaryIO, command: str, groups: Rules, results: list[Result]) -> None:
-    """Writes the table as JSON, with a line for each case."""
-    head = {"command": command, "cases": _counts(results)}
-    rules = JsonList(stream, "rules", head)
-    for group, rule, some in (
-        (group, *one) for group, rules in groups.items() for one in rules.items()
-    ):
-        rules.entries.begin_entry()
-        cases = JsonList(stream, "cases", {"rule": rule, "folder": group, "answer": _worst(some)})
-        for result in some:
-            cases.entries.add(result.told())
-        cases.end({})
-    rules.end({})
-    stream.write(b"\n")

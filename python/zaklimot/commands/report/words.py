@@ -62,7 +62,7 @@ def _add_suite(parser: argparse.ArgumentParser) -> None:
     add(parser, "--bytes COMMAND", "the command for scripts as bytes; without it they are skipped")
     _add_cases(parser)
     _add_machine(parser)
-    told = "counts steps that are to be refused as skipped"
+    told = "counts a step as skipped where a refusal is expected"
     add(parser, "--no-refusals", told, dest="refusals", action="store_false")
     add(
         parser, "--timeout SECONDS", "the time of each case (default: 60)", type=seconds, default=60
@@ -71,6 +71,7 @@ def _add_suite(parser: argparse.ArgumentParser) -> None:
     add(parser, "--output MIB", told, type=number_to(MOST_OUTPUT), default=256)
     told = "runs N commands at a time (default: 1)"
     add(parser, "--jobs N", told, type=number_to(MOST_JOBS), default=1)
+    add(parser, "--fail-fast", "stops at the first case that differs or fails")
     add(parser, "--json", "prints the table as JSON")
 
 

@@ -3,6 +3,7 @@ the elements show."""
 
 import argparse
 import json
+import sys
 from collections import defaultdict
 from dataclasses import dataclass
 from typing import Iterator, NamedTuple, Optional
@@ -174,9 +175,13 @@ def check(words: argparse.Namespace, progress: Progress) -> int:
     held = []
     for path in words.file:
         with asked_adapter(words.command, words.timeout) as adapter:
-            held.append(_held(path, adapter, words.refusals, progress))
+            held.append(_held(path, adapter, words, progress))
         progress.clear()
         tell("".join(f"{line}\n" for line in held[-1].lines()))
+        # An adapter may be slow, and standard output a pipe.
+        sys.stdout.flush()
+        if words.fail_fast and held[-1].differ:
+            break
     if words.json is not None:
         write_file(words.json, (json.dumps([one.told() for one in held]) + "\n").encode("ascii"))
     if words.junit is not None:
@@ -187,20 +192,26 @@ def check(words: argparse.Namespace, progress: Progress) -> int:
     if sum(bool(one.differ) for one in held) > 1:
         tell("of all files\n" + "".join(f"  {one.told()}\n" for one in worst(held)))
     skipped = f", {total - agree - differ} skipped" if total > agree + differ else ""
-    tell(f"{counted(total, 'element')}: {agree} agree, {differ} differ{skipped}\n")
+    left = "; the others were not run" if words.fail_fast and differ else ""
+    tell(f"{counted(total, 'element')}: {agree} agree, {differ} differ{skipped}{left}\n")
     return DIFFERED if differ or not agree else AGREED
 
 
-def _held(path: str, adapter: AskedAdapter, has_refusals: bool, progress: Progress) -> HeldFile:
-    """What an adapter makes of the elements of a file."""
+def _held(
+    path: str, adapter: AskedAdapter, words: argparse.Namespace, progress: Progress
+) -> HeldFile:
+    """What an adapter makes of the elements of a file. With --fail-fast the first that differs is
+    the last."""
     held = HeldFile(name_of(path))
     for number, element in enumerate(read_elements(path)):
-        if REFUSED in element and not has_refusals:
+        if REFUSED in element and not words.refusals:
             held.skip()
         else:
             held.judge(element, adapter.answer(element, number), number)
         if progress.is_due():
             progress.tell(f"{held.name}: {counted(number + 1, 'element')}, {held.differ} differ")
+        if words.fail_fast and held.differ:
+            break
     return held
 
 

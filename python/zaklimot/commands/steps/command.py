@@ -1,10 +1,12 @@
 """What each command of `steps` does, but for those that have a module of their own."""
 
 import argparse
+import sys
 from typing import Iterator
 
 from zaklimot.format import printed
-from zaklimot.commands.core.files import check_folder, files, name_of
+from zaklimot.commands.core.cli import say
+from zaklimot.commands.core.files import name_of
 from zaklimot.commands.core.progress import Progress
 from zaklimot.commands.core.streams import counted, read_at_most, write, write_file, write_name
 from zaklimot.commands.core.trouble import AGREED, Trouble
@@ -12,6 +14,7 @@ from zaklimot.commands.script.library import library_path
 from zaklimot.commands.script.words import FONTS
 
 from .adapter import SteppedCard
+from .archive import Archive
 from .children import in_children
 from .checking import check
 from .kinds import KINDS
@@ -29,35 +32,54 @@ __all__ = [
     "make",
     "write_script",
 ]
-PACKED = ".json.gz"
-PLAIN = ".json"
 MOST_FONTS = 1 << 16
 
 
-def _chosen(prefixes: list[str]) -> list[ElementKind]:
-    """The kinds whose names begin so; all without prefixes."""
-    found = [kind for kind in KINDS.values() if kind.name.startswith(tuple(prefixes) or "")]
+def _chosen(words: argparse.Namespace) -> list[ElementKind]:
+    """The kinds whose names begin so; all without prefixes. A part is the kind of this name."""
+    prefixes = tuple(words.only)
+    found = [kind for kind in KINDS.values() if kind.name.startswith(prefixes or "")]
+    if words.is_part:
+        found = [KINDS[name] for name in prefixes]
     if not found:
         raise Trouble("no kind has a name as --only wants it: `zaklimot steps kinds` lists them")
     return found
 
 
 def make(words: argparse.Namespace, progress: Progress) -> int:
-    """Makes the files of kinds."""
-    kinds = _chosen(words.only)
-    check_folder(words.folder)
-    folder = files().make_folder(words.folder)
-    if words.jobs > 1 and len(kinds) > 1:
-        return _make_in_children(words, kinds, progress)
+    """Makes the files of kinds. Those that are there already, made by the same words, stay."""
+    archive = Archive(words.folder, words.count, words.seed, words.plain)
+    kinds = _chosen(words)
+    lacking = [kind for kind in kinds if words.is_part or not archive.has(kind)]
+    for kind in kinds:
+        if kind not in lacking:
+            write_name(archive.path(kind))
+    if len(lacking) < len(kinds):
+        there = f"{len(kinds) - len(lacking)} of {counted(len(kinds), 'file')}"
+        say(f"zaklimot: {there} stayed: these words make the same\n")
+    if words.jobs > 1 and len(lacking) > 1:
+        _make_in_children(words, lacking, archive, progress)
+    elif lacking:
+        _make_here(words, lacking, archive, progress)
+    if not words.is_part:
+        archive.finish()
+    return AGREED
+
+
+def _make_here(
+    words: argparse.Namespace, kinds: list[ElementKind], archive: Archive, progress: Progress
+) -> None:
+    """Makes the files of kinds, one after the other."""
     fonts = read_at_most(str(FONTS), MOST_FONTS)
     with SteppedCard(load(), fonts) as card:
         for kind in kinds:
-            path = folder / (kind.name + (PLAIN if words.plain else PACKED))
             made = elements(kind, words.count, words.seed, card)
-            write_elements(str(path), _told(made, kind, progress))
+            write_elements(str(archive.path(kind)), _told(made, kind, progress))
             progress.clear()
-            write_name(path)
-    return AGREED
+            if not words.is_part:
+                archive.add(kind)
+            write_name(archive.path(kind))
+            sys.stdout.flush()
 
 
 def _told(made: Iterator[Element], kind: ElementKind, progress: Progress) -> Iterator[Element]:
@@ -69,26 +91,21 @@ def _told(made: Iterator[Element], kind: ElementKind, progress: Progress) -> Ite
 
 
 def _make_in_children(
-    words: argparse.Namespace, kinds: list[ElementKind], progress: Progress
-) -> int:
+    words: argparse.Namespace, kinds: list[ElementKind], archive: Archive, progress: Progress
+) -> None:
+    """Makes the files of kinds, each in a process of its own."""
     # Once, and not by each of them.
     library_path()
-    given = ["make", "--count", str(words.count), "--seed", str(words.seed)]
+    given = ["make", "--part", "--count", str(words.count), "--seed", str(words.seed)]
     given += ["--plain"] if words.plain else []
     # Names of files and folders may begin with a dash.
-    alone = [kind.name for kind in kinds if _is_alone(kind, kinds)]
-    commands = [[*given, "--only", name, "--", words.folder] for name in alone]
-    for done in in_children(
-        commands, words.jobs, progress, lambda n: f"{n} of {len(commands)} files"
-    ):
+    commands = [[*given, "--only", kind.name, "--", words.folder] for kind in kinds]
+    done = in_children(commands, words.jobs, progress, lambda n: f"{n} of {len(commands)} files")
+    for kind, one in zip(kinds, done):
         progress.clear()
-        write(done.output.decode("utf-8", "surrogateescape"))
-    return AGREED
-
-
-def _is_alone(kind: ElementKind, kinds: list[ElementKind]) -> bool:
-    """Whether no shorter name of another kind begins this one's, by which both are made."""
-    return not any(kind.name.startswith(one.name) for one in kinds if one is not kind)
+        archive.add(kind)
+        write(one.output.decode("utf-8", "surrogateescape"))
+        sys.stdout.flush()
 
 
 def list_kinds(words: argparse.Namespace, _: Progress) -> int:

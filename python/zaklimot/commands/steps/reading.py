@@ -1,5 +1,5 @@
-"""Files of elements: a JSON array with one element a line, packed by gzip or not. They are read
-line by line, and what is no element is told with its line."""
+"""Files of elements: a JSON array, packed by gzip or not. What is no element is told with its
+line."""
 
 import gzip
 import json
@@ -13,6 +13,7 @@ from zaklimot.commands.core.files import name_of
 from zaklimot.commands.core.streams import JsonArray, reading, writing
 from zaklimot.commands.core.trouble import Trouble
 
+from .arrays import ArrayReader
 from .parts import (
     ANSWER,
     BDA,
@@ -33,7 +34,7 @@ from .parts import (
     Element,
 )
 
-# A longer line is no element.
+# A longer line is no answer.
 MOST_LINE = 1 << 22
 # How gzip files begin; and how hard they are packed.
 GZIP = b"\x1f\x8b"
@@ -87,34 +88,13 @@ def read_elements(path: str) -> Iterator[Element]:
 
 
 def _elements(source: BinaryIO, name: str) -> Iterator[Element]:
-    """The elements, line by line."""
-    number = 0
-    is_ended = False
-    while line := source.readline(MOST_LINE):
-        number += 1
-        if len(line) >= MOST_LINE:
-            raise Trouble(f"the line has {MOST_LINE:,} bytes or more", name, number)
-        text = line.strip().rstrip(b",")
-        if number == 1 and text != b"[":
-            raise Trouble("it is no file of elements: its first line is not [", name, number)
-        if is_ended and text:
-            raise Trouble("something stands after the array", name, number)
-        is_ended = is_ended or text == b"]"
-        if text not in (b"[", b"]", b""):
-            yield _element(text, name, number)
-    if not is_ended:
-        raise Trouble("it ends before its array does", name, number or None)
-
-
-def _element(text: bytes, name: str, line: int) -> Element:
-    try:
-        element = json.loads(text)
-    except (ValueError, RecursionError) as error:
-        raise Trouble(f"it is no JSON: {error}", name, line) from error
-    reason = fault_of(element)
-    if reason:
-        raise Trouble(reason, name, line)
-    return cast(Element, element)
+    """The elements, one by one."""
+    reader = ArrayReader(source, name)
+    for element in reader.values():
+        reason = fault_of(element)
+        if reason:
+            raise reader.trouble(reason)
+        yield cast(Element, element)
 
 
 def fault_of(element: object) -> str:

@@ -11,7 +11,7 @@ from zaklimot.commands.core.words import MOST_JOBS, number_to, seconds
 # So many elements has a file at most, and the largest seed.
 MOST_COUNT = 1_000_000
 MOST_SEED = (1 << 32) - 1
-COMMAND = """the command that holds an adapter, as one word of the shell. It reads elements as lines
+COMMAND = """the command that runs an adapter, as one word of the shell. It reads elements as lines
 of JSON on standard input, without their answers, and answers each with a line"""
 # What jobs of the command line are functions of.
 _job = partial(later, "zaklimot.commands.steps.command")
@@ -31,7 +31,9 @@ def _add_make(commands: cli.Commands) -> None:
     told = "makes the files of all kinds, or of some"
     example = "zaklimot steps make steps --count 1000 --seed 1 --jobs 2"
     made = cli.command(commands, "make", _job("make"), told, example)
-    add(made, "FOLDER", "the folder for the files; files of these names are replaced")
+    told = """the folder for the files. Those that are there, made by the same words, stay; others
+of these names are replaced"""
+    add(made, "FOLDER", told)
     told = "how many elements each file gets (default: 10000)"
     add(made, "--count N", told, type=number_to(MOST_COUNT), default=10_000)
     told = "the seed, 0 to 4294967295: the same makes the same files (default: 0)"
@@ -39,6 +41,8 @@ def _add_make(commands: cli.Commands) -> None:
     told = "makes only kinds whose names begin with PREFIX; may be repeated"
     add(made, "--only PREFIX", told, action="append", default=[])
     add(made, "--plain", "writes the files as they are, and does not pack them")
+    # For the processes of --jobs: the first of them writes what lies beside the files.
+    add(made, "--part", argparse.SUPPRESS, dest="is_part")
     _add_jobs(made)
 
 
@@ -62,17 +66,18 @@ def _add_script(commands: cli.Commands) -> None:
 
 
 def _add_check(commands: cli.Commands) -> None:
-    told = "holds an adapter to elements, by lines of JSON"
+    told = "tests an adapter by elements, which it reads and answers as lines of JSON"
     adapter = "python3 examples/steps/toy.py"
     file = "examples/steps/sequencer.json.gz"
     example = f"zaklimot steps check '{adapter}' {file}"
     made = cli.command(commands, "check", _job("check"), told, example)
     add(made, "COMMAND", COMMAND)
     _add_files(made)
-    told = "counts elements that are to be refused as skipped"
+    told = "skips elements whose step is expected to be refused"
     add(made, "--no-refusals", told, dest="refusals", action="store_false")
     told = "the time for each answer (default: 60)"
     add(made, "--timeout SECONDS", told, type=seconds, default=60)
+    add(made, "--fail-fast", "stops at the first element that differs")
     told = "writes a test case for each rule of each file, as test runners read it"
     add(made, "--junit FILE", told, type=Output)
     add(made, "--json FILE", "writes the counts, and what differs first, as JSON", type=Output)
