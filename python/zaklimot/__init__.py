@@ -33,12 +33,19 @@ one it is: the proved one, or the portable one, which a C compiler makes. docs/P
 guide.
 """
 
-from __future__ import annotations
-
+import sys
 from importlib import import_module
 from typing import TYPE_CHECKING, Any
 
-from . import format
+if sys.version_info < (3, 9):
+    TOO_OLD = "this needs Python 3.9 or later, not %d.%d" % sys.version_info[:2]
+    if sys.argv[:1] == ["-m"]:
+        # `python -m zaklimot` ends with a sentence, as the command does.
+        sys.stderr.write(TOO_OLD + "\n")
+        raise SystemExit(2)
+    raise ImportError(TOO_OLD)
+
+from . import format  # noqa: E402
 
 if TYPE_CHECKING:
     from ._api import *  # noqa: F403

@@ -54,6 +54,9 @@ PLANE_ENABLE = 0x12
 MOST_SCAN = 0x09
 COMPARE_9 = 0x40
 LINE_COMPARE = 0x18
+CURSOR_START = 0x0A
+CURSOR_END = 0x0B
+CURSOR_OFF = 0x20
 # The state before a step, and the place of the first byte of a write, if that is all in the window.
 State = bytearray
 # Bytes of the state, by their places.
@@ -111,7 +114,16 @@ def _steps(name: str, *ports: int) -> Callable[[Element], bool]:
     return lambda element: name in element and (not ports or element[name][0] in ports)
 
 
+def _cursor_ends_early(_: Element, was: State) -> Changes:
+    """The cursor lacks its last line; one of a single line is off where that is line 0."""
+    last = was[CRTC + CURSOR_END] & 31
+    if not last:
+        return {CRTC + CURSOR_START: was[CRTC + CURSOR_START] | CURSOR_OFF}
+    return {CRTC + CURSOR_END: was[CRTC + CURSOR_END] - 1}
+
+
 FAULTS = {
+    "cursor-ends-a-line-early": Fault(_steps("line"), _cursor_ends_early),
     "set-reset-in-write-mode-1": Fault(lambda element: _is_write(element, 1), after=_set_planes),
     "bit-mask-ignored-in-write-mode-3": Fault(
         lambda element: _is_write(element, 3), lambda *_: {GFX + 8: 0xFF}

@@ -45,6 +45,7 @@ FOUND = {
     "no-protection": ("crt-controller-protected", "protected registers"),
     "panning-by-nine-dots": ("dots-text", "panning"),
     "blink-inverted": ("dots-text", "blink"),
+    "cursor-ends-a-line-early": ("dots-text", "cursor"),
     "all-planes-enabled": ("dots-16-colours", "a colour's number"),
     "line-compare-ignored": ("clock", "the end of a line"),
     "colours-kept-by-mode-sets": ("service-00-mode-sets", "00 sets a mode"),
@@ -108,6 +109,10 @@ class Faults(Made):
                 held = self.held(kind, fault, 120)
                 self.assertGreater(held.differ, 5)
                 self.assertEqual(held.branches()[0].rule, rule, list(held.lines()))
+
+    def test_the_end_of_the_cursor_is_named_by_its_line(self) -> None:
+        held = self.held("dots-text", "cursor-ends-a-line-early", 500)
+        self.assertEqual(held.branches()[0][:2], ("cursor", "its last line"))
 
     def test_no_other_kind_finds_it(self) -> None:
         for fault, others in (

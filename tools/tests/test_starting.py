@@ -7,6 +7,7 @@ import re
 import shutil
 import signal
 import subprocess
+import sys
 import time
 import unittest
 from pathlib import Path
@@ -103,6 +104,12 @@ class Starting(Folder):
             done = ended(path_of("zaklimot"), "--help")
         told = "this needs Python 3.9 or later, not 3.8\n"
         self.assertEqual(done, (2, "", told))
+        paths = os.pathsep.join((str(self.folder), str(TOP / "python")))
+        with mock.patch.dict(os.environ, PYTHONPATH=paths):
+            self.assertEqual(ended(sys.executable, "-m", "zaklimot", "--help"), (2, "", told))
+            status, output, said = ended(sys.executable, "-c", "import zaklimot")
+        self.assertEqual((status, output), (1, ""))
+        self.assertTrue(said.endswith(f"\nImportError: {told}"), said)
 
     def test_all_begin_alike(self) -> None:
         begun = set()

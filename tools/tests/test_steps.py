@@ -494,6 +494,7 @@ class Files(Folder):
                 (changed(put=[1 << 32, 0]), "its step put has not the numbers that it takes"),
                 (changed(put=[True, 0]), "its step put has not the numbers that it takes"),
                 (changed(refused="Nothing"), "there is no refusal Nothing"),
+                (changed(refused=None), "there is no refusal None"),
                 (changed(refused="NotDecoded", answer=5), "its answer is none of the step put"),
                 ({**read, "answer": 5}, ""),
                 (read, "its answer is none of the step get"),

@@ -1,7 +1,7 @@
 """Elements of the clock: where the beam is after so many dots, with the registers of its frame, or
 with others since the middle of one."""
 
-from zaklimot.format import MOST_ADVANCE, Step
+from zaklimot.format import Step
 from zaklimot.commands.explain.raster import (
     DOUBLE_SCAN,
     LINE_COMPARE,
@@ -30,6 +30,10 @@ HALVED = 0x08
 FRAMES = 32
 MOST_FRAMES = 33
 MOST_STEPS = 3
+# The dots of an element are fewer, on the way and in its step: an adapter may take them one by one.
+MOST_DOTS = 100_000
+# So many has one in 240 elements of the clock, which its name tells.
+MANY_DOTS = 1_000_000
 
 
 def sequencer(chance: Chance) -> list[int]:
@@ -43,15 +47,17 @@ def _dots_before(chance: Chance, crtc: list[int], width: int) -> int:
     """For how many dots the clock runs before: a few lines, or frames and a part of one."""
     whole = frame_dots(crtc, width)
     line = line_characters(crtc) * width
+    # The step has a few frames too.
+    most_frames = min(MOST_FRAMES, MOST_DOTS // whole - MOST_STEPS - 1)
     kind = chance.below(8)
     if kind == 0:
         return chance.below(2 * width)
     if kind == 1:
-        frames = chance.among((FRAMES - 1, chance.below(MOST_FRAMES)))
+        frames = chance.among((min(FRAMES, most_frames) - 1, chance.below(most_frames)))
         return frames * whole + chance.among((0, whole - 1, chance.below(whole)))
     if kind == 2:
         return chance.below(4 * whole // line) * line + chance.below(2)
-    return chance.below(MOST_FRAMES if kind == 3 else 2) * whole + chance.below(whole)
+    return chance.below(most_frames if kind == 3 else 2) * whole + chance.below(whole)
 
 
 def _count(chance: Chance, card: SteppedCard, width: int) -> int:
@@ -64,15 +70,13 @@ def _count(chance: Chance, card: SteppedCard, width: int) -> int:
     beam = card.read(("beam",), {})["beam"]
     ends = (width - int(beam["dot"]), left % line, left)
     kind = chance.below(12)
-    if kind < 6:
+    if kind < 7:
         return max(0, chance.among(ends) + chance.below(3) - 1)
-    if kind == 6:
+    if kind == 7:
         return chance.among((0, 1, 2, line, frame))
-    if kind == 7 and chance.one_in(8):
-        return chance.among(
-            (MOST_ADVANCE, MOST_ADVANCE + 1, 0xFFFFFFFF, MOST_ADVANCE + 1 + chance.bits(31))
-        )
-    if kind < 9:
+    if kind == 8 and chance.one_in(20):
+        return MANY_DOTS + chance.below(frame)
+    if kind < 10:
         return line * chance.below(40) + chance.below(3)
     return chance.below(MOST_STEPS * frame)
 
@@ -82,11 +86,24 @@ def _advance(chance: Chance, card: SteppedCard, state: Parts, reach: Parts, what
     card.power_on()
     card.run(steps_to(state, reach))
     count = _count(chance, card, character_dots(state["seq"]))
+    if count >= MANY_DOTS:
+        what = f"{what}, {MANY_DOTS:,} dots or more"
+    elif reach["dots"] + count >= MOST_DOTS:
+        # A beam past an end that has moved may have a long way to go.
+        count = chance.below(MOST_DOTS - reach["dots"])
     return Wish(what, state, Step("advance", (count,)), reach)
 
 
+def _frame(chance: Chance) -> list[int]:
+    """Registers of a small frame, some of them of so few lines that 32 of these are few dots."""
+    crtc = small_frame(chance)
+    if chance.one_in(2):
+        crtc[LINES] = chance.below(14)
+    return crtc
+
+
 def _clock(chance: Chance, card: SteppedCard) -> Wish:
-    state: Parts = {"seq": sequencer(chance), "crtc": small_frame(chance), "beam": {}}
+    state: Parts = {"seq": sequencer(chance), "crtc": _frame(chance), "beam": {}}
     reach = {"dots": _dots_before(chance, state["crtc"], character_dots(state["seq"]))}
     lines = state["crtc"][LINES] + 2
     return _advance(chance, card, state, reach, f"clock, {lines} lines")
@@ -94,7 +111,7 @@ def _clock(chance: Chance, card: SteppedCard) -> Wish:
 
 def _changed(chance: Chance, card: SteppedCard) -> Wish:
     """The frame's registers are others since the beam is where it is."""
-    state: Parts = {"seq": sequencer(chance), "crtc": small_frame(chance), "beam": {}}
+    state: Parts = {"seq": sequencer(chance), "crtc": _frame(chance), "beam": {}}
     before = state["crtc"]
     crtc = list(state["crtc"])
     seq = list(state["seq"])
@@ -102,7 +119,7 @@ def _changed(chance: Chance, card: SteppedCard) -> Wish:
     if what == "lines":
         crtc[LINES] = chance.below(before[LINES] + 1)
     elif what == "characters":
-        crtc[TOTAL] = chance.below(before[TOTAL] + 1)
+        crtc[TOTAL] = 0 if chance.one_in(2) else chance.below(before[TOTAL] + 1)
     elif what == "width":
         seq[1] ^= EIGHT_DOTS
     elif what == "rows":

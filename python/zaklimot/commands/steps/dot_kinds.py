@@ -26,7 +26,7 @@ from zaklimot.commands.explain.raster import (
 
 from .adapter import SteppedCard
 from .chance import Chance
-from .clock_kinds import EIGHT_DOTS
+from .clock_kinds import EIGHT_DOTS, MOST_DOTS
 from .parts import LINE, Parts
 from .port_kinds import frame_dots, small_frame
 from .reaching import out, steps_to
@@ -100,8 +100,10 @@ def _text_planes(chance: Chance, state: Parts, beam: Parts) -> dict[int, list[in
     found = dict[int, list[int]]()
     for counter in counters_of(state, beam):
         place = found.setdefault(fetch_address(state["crtc"], counter), [0, 0, 0, 0])
-        place[0] = 0xC0 + chance.bits(5) if chance.one_in(3) else chance.bits(8)
-        place[1] = chance.among((0x01, 0x09, 0x81)) if chance.one_in(4) else chance.byte()
+        # Codes of line graphics, and those beside them, more often than others.
+        place[0] = chance.among((0xC0, 0xC0, 0xE0, 0, 0, 0)) + chance.bits(5)
+        place[0] = chance.bits(8) if place[0] < 0xC0 else place[0]
+        place[1] = chance.among((0x01, 0x09, 0x81)) if chance.one_in(3) else chance.byte()
     scan = beam["scan"] if beam["line"] else preset_scan(state["crtc"])
     for place in list(found.values()):
         offset = _glyph_row(state["seq"], place[0], place[1], scan)
@@ -125,14 +127,24 @@ def _graphics_planes(chance: Chance, state: Parts, beam: Parts) -> dict[int, lis
 def _place_cursor(chance: Chance, state: Parts, beam: Parts) -> None:
     """The cursor stands in the line more often than elsewhere, and where scan lines show it."""
     counters = counters_of(state, beam)
-    place = chance.among(counters) if chance.one_in(2) else chance.bits(16)
+    place = chance.bits(16) if chance.one_in(4) else chance.among(counters[:-1])
     crtc = state["crtc"]
     crtc[0x0E], crtc[0x0F] = place >> 8, place & 0xFF
-    if chance.one_in(2):
-        crtc[CURSOR_START] = chance.below(beam["scan"] + 1) | (0x20 if chance.one_in(8) else 0)
-        crtc[CURSOR_END] = beam["scan"] + chance.below(32 - beam["scan"])
-    if chance.one_in(2):
-        crtc[UNDERLINE] = crtc[UNDERLINE] & ~31 | beam["scan"]
+    scan = beam["scan"] if beam["line"] else preset_scan(crtc)
+    if not chance.one_in(4):
+        # Its first line and its last are this one, or the line beside it, more often than others.
+        start, end = chance.among(
+            (
+                (scan, scan + chance.below(32 - scan)),
+                (chance.below(scan + 1), scan),
+                (scan + 1, 31),
+                (chance.below(scan + 1), scan - 1),
+            )
+        )
+        crtc[CURSOR_START] = start & 31 | (0x20 if chance.one_in(8) else 0)
+        crtc[CURSOR_END] = end & 31
+    if not chance.one_in(3):
+        crtc[UNDERLINE] = crtc[UNDERLINE] & ~31 | scan
 
 
 def _state(chance: Chance, kind: str) -> tuple[Parts, Parts]:
@@ -151,7 +163,9 @@ def _state(chance: Chance, kind: str) -> tuple[Parts, Parts]:
     whole = frame_dots(crtc, width)
     line = line_characters(crtc) * width
     displayed = crtc[LAST_LINE] + (2 if chance.one_in(4) else 1)
-    dots = chance.below(FRAMES) * whole + chance.below(displayed) * line
+    # The line that the step draws is one more.
+    frames = min(FRAMES, MOST_DOTS // whole - 1)
+    dots = chance.below(frames) * whole + chance.below(displayed) * line
     return state, {"dots": dots}
 
 

@@ -3,7 +3,6 @@
 from functools import partial
 from typing import Any, Callable, NamedTuple, Optional
 
-from zaklimot.format import MOST_ADVANCE
 from zaklimot.commands.explain.ports import RETRACE_END
 from zaklimot.commands.explain.raster import (
     BYTE_MODE,
@@ -27,7 +26,7 @@ from zaklimot.commands.explain.raster import (
 )
 
 from .dot_kinds import BLINK, LINE_GRAPHICS, MONOCHROME, PACKED_256, PAN_RESET, PLANES_16, SELECT
-from .dot_kinds import SCREEN_OFF, SHOWN, TEXT, counters_of
+from .dot_kinds import CURSOR_END, CURSOR_START, SCREEN_OFF, SHOWN, TEXT, counters_of
 from .parts import LINE
 from .seen import SeenElement, ShownRule
 
@@ -101,19 +100,35 @@ def _is_blinked_away(cell: Cell, e: SeenElement) -> bool:
 
 
 def _is_cursor(cell: Cell, e: SeenElement) -> bool:
-    is_at = cell.counter == e.crtc[0x0E] << 8 | e.crtc[0x0F]
-    return bool(is_at and e.crtc[0x0A] & 31 <= _scan(e) <= e.crtc[0x0B] & 31)
+    """Whether the cursor stands in a cell, and this line is one of its own."""
+    first, last = e.crtc[CURSOR_START] & 31, e.crtc[CURSOR_END] & 31
+    return bool(_is_cursor_place(cell, e) and first <= _scan(e) <= last)
+
+
+def _is_cursor_place(cell: Cell, e: SeenElement) -> bool:
+    return bool(cell.counter == e.crtc[0x0E] << 8 | e.crtc[0x0F])
+
+
+def _has_edge(e: SeenElement, register: int, beyond: int) -> bool:
+    """Whether the line is the cursor's first or last, by its register, or one beyond that, where a
+    cell of it has the cursor, which is on and is shown in this frame."""
+    is_on = not e.crtc[CURSOR_START] & CURSOR_OFF and not e.beam["frame"] & HALF_OF_CURSOR
+    is_one = (e.crtc[CURSOR_START] & 31) <= (e.crtc[CURSOR_END] & 31)
+    is_edge = _scan(e) == (e.crtc[register] & 31) + beyond
+    return bool(is_on and is_one and is_edge) and _has_cell(e, cursor_place=True)
 
 
 CELLS: dict[str, Callable[[Cell, SeenElement], bool]] = {
     "map_a": lambda cell, e: bool(cell.attribute & 8),
     "high_map": lambda cell, e: _map(cell, e) > 3,
     "is_line": lambda cell, e: 0xC0 <= cell.character <= 0xDF,
+    "is_beside_lines": lambda cell, e: cell.character >= 0xE0,
     "underlined": lambda cell, e: cell.attribute & 0x77 == 1
     and bool(e.attr[0x10] & MONOCHROME)
     and _scan(e) == underline_scan(e.crtc),
     "blinks": lambda cell, e: bool(cell.attribute & 0x80),
     "away": _is_blinked_away,
+    "cursor_place": _is_cursor_place,
     "cursor": lambda cell, e: _is_cursor(cell, e) and not e.crtc[0x0A] & CURSOR_OFF,
     "hidden_cursor": lambda cell, e: _is_cursor(cell, e) and bool(e.crtc[0x0A] & CURSOR_OFF),
 }
@@ -259,6 +274,9 @@ RULES = (
             "line graphics is off": lambda e: character_dots(e.seq) == 9
             and not e.attr[0x10] & LINE_GRAPHICS
             and _has_cell(e, is_line=True),
+            "of codes E0 to FF": lambda e: character_dots(e.seq) == 9
+            and e.attr[0x10] & LINE_GRAPHICS
+            and _has_cell(e, is_beside_lines=True),
             "of other characters": lambda e: character_dots(e.seq) == 9
             and _has_cell(e, is_line=False),
             "of graphics is 0": lambda e: character_dots(e.seq) == 9
@@ -302,6 +320,10 @@ RULES = (
             "it is off": lambda e: e.beam["frame"] & HALF_OF_CURSOR == 0
             and _has_cell(e, hidden_cursor=True),
             "over what is blinked away": partial(_has_cell, cursor=True, away=True),
+            "its first line": partial(_has_edge, register=CURSOR_START, beyond=0),
+            "the line before its first": partial(_has_edge, register=CURSOR_START, beyond=-1),
+            "its last line": partial(_has_edge, register=CURSOR_END, beyond=0),
+            "the line after its last": partial(_has_edge, register=CURSOR_END, beyond=1),
         },
         ("answer",),
     ),
@@ -412,9 +434,7 @@ RULES = (
         CLOCK,
         {
             "more than one line": lambda e: e.address > _line_dots(e),
-            "more than one frame": lambda e: not e.refused
-            and e.address > _line_dots(e) * frame_lines(e.crtc),
-            "too far": lambda e: e.refused == "TooFar" and e.address > MOST_ADVANCE,
+            "more than one frame": lambda e: e.address > _line_dots(e) * frame_lines(e.crtc),
         },
     ),
     ShownRule(

@@ -80,7 +80,11 @@ def address(chance: Chance, gfx: list[int], is_word: bool = False) -> int:
         # Where offsets wrap from FFFF to 0, in the window of 128 KiB.
         return first + size // 2 + chance.among((-2, -1, 0, 1))
     edges = (first, first + 1, first + size - 1, first + size - 2 + 2 * is_word)
-    beside = (first - 1, first + size, first - 1 - chance.bits(16), first + size + chance.bits(16))
+    far = (first - 1 - chance.bits(16), first + size + chance.bits(16))
+    beside: tuple[int, ...] = (first - 1, first + size, *far)
+    if is_word:
+        # A byte of it is in the window, or at address 0.
+        beside = (*beside, first - 1, MOST_ADDRESS)
     places = (edges, edges, edges, (*beside, 0, MOST_ADDRESS))[kind]
     return chance.among(places)
 

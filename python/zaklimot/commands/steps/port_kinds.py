@@ -87,7 +87,7 @@ def _graphics(chance: Chance, _: SteppedCard) -> Wish:
     values = chance.many(9)
     values[5] = _graphics_mode(values[5])
     # Graphics mode refuses some values: it comes oftener than others.
-    index = 5 if chance.one_in(5) else chance.bits(4)
+    index = 5 if chance.one_in(5) else chance.among((chance.below(9), chance.bits(4)))
     state: Parts = {"gfx_index": index, "gfx": values}
     name, step = _indexed(chance, GRAPHICS, 4, "graphics")
     return Wish(f"{name}, register {index}", state, step)

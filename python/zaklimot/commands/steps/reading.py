@@ -113,7 +113,7 @@ def fault_of(element: object) -> str:
         or _fault_of_state(element.get(FINAL), FINAL)
         or _fault_of_reach(element.get(REACH, {}))
         or _fault_of_step(steps[0], element[steps[0]])
-        or _fault_of_refusal(element.get(REFUSED))
+        or (_fault_of_refusal(element[REFUSED]) if REFUSED in element else "")
         or _fault_of_answer(steps[0], element)
     )
 
@@ -239,8 +239,7 @@ def _are_dots(answer: object) -> bool:
 
 
 def _fault_of_refusal(name: object) -> str:
-    known = name is None or name in REFUSALS.values()
-    return "" if known else f"there is no refusal {str(name)[:20]}"
+    return "" if name in REFUSALS.values() else f"there is no refusal {str(name)[:20]}"
 
 
 def step_of(element: Element) -> Step:
