@@ -150,13 +150,19 @@ export class Scripts {
     if (isOther) this.keepNow();
     this.now = script;
     if (isOther) {
-      byId("about").textContent = script.about;
+      this.tellAbout(script.about);
       this.#title();
     }
     if (script.id) this.keepSoon(script, typed, isOther);
     if (isOther) this.choose();
     if (!isOther || script.id) return;
     this.note(script.isExample && !isAsked ? { example: script.name } : null);
+  }
+
+  /** Tells what a script is, in two lines; or whole, if it is about what can't be done with it. */
+  tellAbout(text, isWhole = false) {
+    const about = Object.assign(byId("about"), { textContent: text, title: text });
+    about.classList.toggle("whole", isWhole);
   }
 
   /**

@@ -8,12 +8,16 @@ const LEFT_ALONE = ["Tab", "Shift-Tab", "Esc", "Insert", "F1", "F9", "Ctrl-Z", "
   "Cmd-F"];
 const MODE = "zaklimot";
 
-/** Colours a line's comment. */
-function commentsApart() {
+/** Colours the name of a line's step, and its comment. */
+function partsApart() {
   return { token(stream) {
-    if (stream.peek() !== ";") return stream.eatWhile(/[^;]/) && null;
-    stream.skipToEnd();
-    return "comment";
+    const isFirst = stream.eatSpace() || stream.pos === 0;
+    if (stream.peek() === ";") {
+      stream.skipToEnd();
+      return "comment";
+    }
+    if (isFirst && stream.start === 0) return stream.eatWhile(/[^\s;]/) && "keyword";
+    return stream.eatWhile(/[^;]/) && null;
   } };
 }
 
@@ -29,7 +33,7 @@ export class TextField {
 
   constructor(box, heard) {
     const { CodeMirror } = globalThis;
-    CodeMirror.defineMode(MODE, commentsApart);
+    CodeMirror.defineMode(MODE, partsApart);
     this.heard = heard;
     // Screen readers read an editable element line by line, and a hidden field not at all.
     this.cm = CodeMirror(box, { mode: MODE, inputStyle: "contenteditable", tabSize: 8,

@@ -108,7 +108,8 @@ export class Asking {
     const watch = this.#action("watch", closing(() => this.#heard.watch(this.#words)));
     const drawn = () => this.#heard.drawn(this.dot.line, this.dot.dot);
     const moved = () => this.#heard.change(subjectOf(`move ${this.dot.line} ${this.dot.dot}`));
-    const buttons = isDot ? [this.#action("drawn", closing(drawn)), change, this.#action("moved", moved), watch]
+    change.className = "chief";
+    const buttons = isDot ? [change, this.#action("drawn", closing(drawn)), this.#action("moved", moved), watch]
       : [change, watch, this.#action("stop", closing(() => this.#heard.stop(this.subject.points)))];
     return element("p", { className: "actions" }, ...buttons);
   }
@@ -119,7 +120,10 @@ export class Asking {
     const found = this.#changed() ?? this.#foundThen() ?? dotOfSeen(this.#seen, place);
     // No cycle of a call draws a dot.
     if (found?.how === "now" && !this.#seen.session.isCall) this.#lookUp(place);
-    if (found) return [this.#table(rowsOfDot(found, place, shown).slice(1), shown)];
+    if (found) {
+      const colours = { "DAC entry": found.source.colour, "but shown": shown };
+      return [this.#table(rowsOfDot(found, place, shown).slice(1), colours)];
+    }
     return [element("p", {}, "The registers as they stand display no dot there.")];
   }
 
@@ -162,12 +166,15 @@ export class Asking {
     }
   }
 
-  #table(rows, colour) {
+  /** Rows, and colours by the names of rows before which a patch of them stands. */
+  #table(rows, colours) {
     const body = rows.map(([name, value]) => element("tr", {},
       element("th", { scope: "row" }, name), element("td", {}, value)));
-    const swatch = element("span", { className: "swatch" });
-    swatch.style.background = cssColour(colour);
-    body[rows.findIndex(([name]) => name === "DAC entry")].lastChild.prepend(swatch, " ");
+    for (const [name, colour] of Object.entries(colours)) {
+      const swatch = element("span", { className: "swatch" });
+      swatch.style.background = cssColour(colour);
+      body[rows.findIndex(row => row[0] === name)]?.lastChild.prepend(swatch, " ");
+    }
     return element("table", { className: "plain" }, element("tbody", {}, ...body));
   }
 

@@ -7,18 +7,18 @@ import { pageStyle } from "./loading.mjs";
 
 const STYLE = pageStyle();
 const LEAST = 4.5, LEAST_TOUCHED = 24;
-const TEXTS = ["ink", "pale", "link", "bad", "good", "refused"];
+const TEXTS = ["ink", "pale", "link", "bad", "good", "refused", "step"];
 const GROUNDS = ["back", "soft", "mark", "changed", "shown"];
 // What is paler by opacity and is no text that must be read: controls that do nothing now, what a
 // mended line makes anew, dots and hairs.
 const NO_TEXT = ["button:disabled", ".number:hover::before, .number.point::before",
   ".number.point::before", ".hair", "body.stale .shows-run"];
 
-/** The rules of a style, [selector, declarations by name]; those of `@media` by its condition. */
+/** The rules of a style, [selector, declarations by name]; those of `@media` and `@container` by the condition. */
 function rulesOf(style, media = null) {
-  const blocks = [...style.matchAll(/@media ([^{]*) \{\n((?:  .*\n)*)\}/g)];
+  const blocks = [...style.matchAll(/@(?:media|container) ([^{]*) \{\n((?:  .*\n)*)\}/g)];
   if (media !== null) return rulesOf(blocks.find(([, condition]) => condition === media)[2]);
-  const plain = style.replaceAll(/\/\*.*\*\/\n|@media [^{]* \{\n(?:  .*\n)*\}/g, "");
+  const plain = style.replaceAll(/\/\*.*\*\/\n|@(?:media|container) [^{]* \{\n(?:  .*\n)*\}/g, "");
   return [...plain.matchAll(/([^{}]+)\{([^}]*)\}/g)].map(([, selector, body]) =>
     [selector.trim().replaceAll(/\s+/g, " "), declarationsOf(body)]);
 }

@@ -14,7 +14,7 @@ const THREE_COLUMNS = 1600;
  */
 const ARRANGEMENTS = {
   two: {
-    name: "script", label: "width of the script", axis: "x", usual: 0.36, least: [250, 330],
+    name: "script", label: "width of the script", axis: "x", usual: 0.4, least: [250, 330],
     halves: [
       { name: "list", label: "height of the script", axis: "y", usual: 0.62, least: [110, 80],
         halves: ["script", "list"] },

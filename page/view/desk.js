@@ -89,7 +89,7 @@ export class Desk {
     this.#showBack();
     this.#swapPoints(old.script, script);
     this.#scripts.show(script, editor, isAsked);
-    if (editor.isLong) byId("about").textContent = `${script.name}. ${editor.note}`;
+    if (editor.isLong) this.#scripts.tellAbout(`${script.name}. ${editor.note}`, true);
     this.run(asked);
   }
 
@@ -134,7 +134,7 @@ export class Desk {
     if (isNew) this.#swapPoints(this.#scripts.now, script);
     else this.#movePoints(old, change);
     this.#scripts.show(script, editor);
-    if (editor.isLong) byId("about").textContent = `${script.name}. ${editor.note}`;
+    if (editor.isLong) this.#scripts.tellAbout(`${script.name}. ${editor.note}`, true);
     this.#heard.changed();
     clearTimeout(this.#timer);
     this.#timer = setTimeout(() => this.run(this.#isNew ? Infinity : undefined),
