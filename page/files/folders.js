@@ -1,5 +1,5 @@
 // What is dropped: a file, several files, or a folder, whose files are read with their names in it.
-import { MOST_FILES, MOST_UNPACKED } from "../machine/zip.js";
+import { MOST_FILES, MOST_UNPACKED } from "../machine/door.js";
 import { Trouble } from "../common/trouble.js";
 import { grouped } from "../common/bytes.js";
 

@@ -6,7 +6,7 @@ import { base64OfBytes, bytesOfBase64, counted, grouped, hex, throughStream }
   from "../common/bytes.js";
 import { encodingTrouble } from "../script/foreign.js";
 import { isReport } from "../run/report.js";
-import { isSavedRun } from "../machine/savedrun.js";
+import { isSavedRun } from "../machine/door.js";
 import { reasonOfBytes } from "../script/faults.js";
 import { textOfTrace, traceForm } from "./trace.js";
 
@@ -107,7 +107,7 @@ export async function bytesOfFiles(files) {
 
 /**
  * What a file is: { fonts }; { png } or { report }, the bytes of one; or { text } of a script,
- * which a trace is too, with the `trace` as it stands. `adapter` prints scripts of bytes.
+ * which a trace is too, with the `trace` as it stands. `adapter` prints scripts of bytes, and tells a trace's time.
  */
 export async function contentsOf(bytes, adapter) {
   if (startsWith(bytes, GZIP)) bytes = await gunzipped(bytes);
@@ -118,7 +118,7 @@ export async function contentsOf(bytes, adapter) {
   if (isFonts) return { fonts: bytes };
   if (startsWith(bytes, MARK)) bytes = bytes.subarray(MARK.length);
   const text = new TextDecoder().decode(bytes), form = traceForm(text);
-  if (form) return { text: textOfTrace(text), trace: text };
+  if (form) return { text: textOfTrace(text, adapter), trace: text };
   const begin = bytes.subarray(0, 4096);
   if (begin.some(byte => byte > 0 && byte < 32 && !TEXT_CONTROLS.includes(byte))) {
     throw new Trouble(noneOf(bytes));

@@ -16,7 +16,7 @@ import { Fonts } from "../files/fonts.js";
 import { Keyboard } from "./keyboard.js";
 import { LastStep } from "./laststep.js";
 import { Listing } from "../editor/listing.js";
-import { MachineRoom } from "../machine/room.js";
+import { MachineRoom, Runs } from "../machine/door.js";
 import { MemoryPanel } from "../panels/memorypanel.js";
 import { Notice } from "./notice.js";
 import { Opener, listenToFiles } from "../files/opening.js";
@@ -27,7 +27,6 @@ import { PointPanel } from "../panels/pointpanel.js";
 import { Questions } from "./questions.js";
 import { RegisterPanel } from "../panels/registerpanel.js";
 import { Runner, stateText } from "../run/runner.js";
-import { Runs } from "../machine/runs.js";
 import { Saver } from "../files/saver.js";
 import { Screen } from "../picture/screen.js";
 import { Scripts } from "../editor/scripts.js";
@@ -45,7 +44,7 @@ import { Judge, LONG_TEXT } from "../run/judging.js";
 import { copyLink, showLink, showRunLink } from "../files/linking.js";
 import { followFlyouts } from "../common/flyout.js";
 import { followRowHeight } from "../common/rows.js";
-import { frameSeconds } from "../files/saving.js";
+import { frameSeconds } from "../run/speed.js";
 import { keyTables } from "./keys.js";
 import { pointText } from "../run/points.js";
 
@@ -88,7 +87,7 @@ export class View {
       stopped: steps => this.notice.tell(
         `The run is stopped at step ${grouped(steps)}: press R, and it goes on.`),
       failed: error => this.#failed(error),
-      frameTime: seen => (seen ? 1000 * frameSeconds(seen.after.registers) : NO_FRAME_TIME),
+      frameTime: seen => (seen ? 1000 * frameSeconds(seen.after.card) : NO_FRAME_TIME),
     });
     this.drawing = new Drawing(() => this.#update());
     this.transport = new Transport(this.runner, this.drawing, () => this.#activePoints, this.guarded);
