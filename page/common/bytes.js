@@ -15,6 +15,11 @@ export function counted(count, noun) {
   return `${grouped(count)} ${noun}${count === 1 ? "" : "s"}`;
 }
 
+/** The bytes of hexadecimal digits, two each. */
+export function bytesOfHex(digits) {
+  return Uint8Array.from(digits.match(/../g) ?? [], two => parseInt(two, 16));
+}
+
 /** The bytes of a text of characters below 256. */
 export function bytesOfCodes(text) {
   return Uint8Array.from(text, letter => letter.charCodeAt(0));

@@ -3,7 +3,7 @@ import { Card } from "../../javascript/zaklimot.js";
 import { Trouble } from "../common/trouble.js";
 import { apngOf, packedRows, padded, pngOf } from "../picture/png.js";
 import { element } from "../common/dom.js";
-import { frameSpeed } from "../run/state.js";
+import { frameSeconds } from "../run/speed.js";
 import { readReport } from "../run/report.js";
 
 const MOST_FRAMES = 2000, MOST_PACKED = 1 << 28, MOST_SAVED = 1 << 28;
@@ -41,12 +41,6 @@ export function pngOfSeen(seen) {
   return pngOf(wholePicture(seen));
 }
 
-/** How long a frame lasts by the clock that the registers select, in seconds. */
-export function frameSeconds(registers) {
-  const { dots, rate } = frameSpeed(registers);
-  return dots / rate;
-}
-
 /**
  * All pictures of a run as a PNG that moves. `done` is called with how many steps are done; it
  * answers false to end.
@@ -67,7 +61,7 @@ export async function apngOfRun(session, done) {
         const packed = await packedRows(picture);
         size += packed.length;
         frames.push({ width: picture.width, height: picture.height, packed,
-          seconds: frameSeconds(session.registersOf(card)) });
+          seconds: frameSeconds(card) });
       }
       if (frames.length > MOST_FRAMES || size > MOST_PACKED) {
         throw new Trouble(`There are more pictures than ${MOST_FRAMES}, or than fit.`);

@@ -2,8 +2,8 @@
 // is expected. Where it tells the time, the clock is advanced between the steps. zaklimot trace
 // does the same and more; page/tests/traces.mjs holds both to the same text.
 import { Trouble } from "../common/trouble.js";
-import { hex } from "../common/bytes.js";
-import { withPauses } from "./pauses.js";
+import { bytesOfHex, hex } from "../common/bytes.js";
+import { TraceClock, withPauses } from "./pauses.js";
 
 // Microseconds, and the dots since the line before where they are known.
 const TIME = "^\\s*(?:-|(\\d{1,18})(?:\\+(\\d{1,12}))?)\\s+";
@@ -37,8 +37,8 @@ function callOf(line, number) {
     throw new Trouble(`Line ${number} of the trace has a call whose block is too long.`);
   }
   const words = values.map((value, i) => `${REGISTERS[i]}=${hex(parseInt(value, 16), 4)}`).join(" ");
-  return { call: `int ${words}${block && ` block ${block.toUpperCase()}`}`,
-    time: microsOf(micros), dots: dotsOf(dots), mode: parseInt(values[0], 16) };
+  return { call: `int ${words}${block && ` block ${block.toUpperCase()}`}`, time: microsOf(micros), dots: dotsOf(dots),
+    registers: Object.fromEntries(REGISTERS.map((name, i) => [name, parseInt(values[i], 16)])), block: bytesOfHex(block) };
 }
 
 /** What a line of the plain form is; a frame whose picture was kept is its dots alone. */
@@ -158,8 +158,13 @@ export function traceForm(text) {
  * Where time passes, two frames stand at the end: the first began amid the cycles, the second is
  * whole.
  */
-function* timedLines(steps) {
-  for (const step of withPauses(steps, MOST_ADVANCE)) yield lineOfStep(step);
+function* timedLines(steps, adapter) {
+  const clock = new TraceClock(adapter);
+  try {
+    for (const step of withPauses(steps, MOST_ADVANCE, clock)) yield lineOfStep(step);
+  } finally {
+    clock.close();
+  }
   yield* ["frame\n", "frame\n"];
 }
 
@@ -168,12 +173,12 @@ function* untimedLines(steps) {
   yield "frame\n";
 }
 
-/** The text of the script that a trace is. Time passes in it if the first step has a time. */
-export function textOfTrace(text) {
+/** The text of the script that a trace is. Time passes in it if the first step has a time; a card of `adapter` tells how. */
+export function textOfTrace(text, adapter) {
   function* steps() {
     for (const cycle of cyclesOf(text)) yield* narrowed(cycle);
   }
   const joined = () => joinedSteps(steps()), { value: first } = joined().next();
   const isTimed = first !== undefined && first.time !== null;
-  return [...(isTimed ? timedLines : untimedLines)(joined())].join("");
+  return [...(isTimed ? timedLines : untimedLines)(joined(), adapter)].join("");
 }

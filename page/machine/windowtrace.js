@@ -1,6 +1,6 @@
 // The last frames of a machine as a trace of cycles with their times (docs/TRACES.md). A trace knows no calls of
 // the BIOS: what one did becomes cycles that leave the same.
-import { LEAST_PAUSE, TimingRegisters } from "../files/pauses.js";
+import { LEAST_PAUSE, TraceClock } from "../files/pauses.js";
 import { Session } from "../run/session.js";
 import { Trouble } from "../common/trouble.js";
 import { grouped, hex } from "../common/bytes.js";
@@ -21,16 +21,20 @@ const HEAD = ["; The last frames of a machine: TIME r|w p|m ADDRESS VALUE SIZE, 
  * The times of cycles, such that who makes pauses of them (see pauses.js) comes to the same dots: what is owed to
  * him goes on to the next time.
  */
-class TraceClock {
+class CycleTimes {
   micros = 0;
-  #registers = new TimingRegisters();
+  #clock;
   #last = 0;
   /** Dots that have passed, and dots that the pauses have until #last. */
   #dots = 0;
   #given = 0;
 
+  constructor(clock) {
+    this.#clock = clock;
+  }
+
   get speed() {
-    return this.#registers.speed;
+    return this.#clock.speed;
   }
 
   /** So many dots pass. */
@@ -43,7 +47,7 @@ class TraceClock {
     const { speed } = this;
     if (!speed) this.#given = this.#dots;
     else this.#advance(speed);
-    this.#registers.take(step);
+    this.#clock.take(step);
   }
 
   #advance({ dots, rate }) {
@@ -67,15 +71,19 @@ function cycleOf(line) {
 /** Writes a trace. */
 class TraceWriter {
   lines = [...HEAD];
-  #clock = new TraceClock();
+  #times;
+
+  constructor(clock) {
+    this.#times = new CycleTimes(clock);
+  }
 
   /** A cycle; `read` is what a read has answered. */
   add(line, read = "0") {
     const cycle = cycleOf(line), { name, isPort, isWord, address, value } = cycle;
     const isRead = name === "in" || name === "get";
-    this.#clock.take(cycle);
+    this.#times.take(cycle);
     const told = isRead ? read : hex(value, isWord ? 4 : 2);
-    this.lines.push(`${this.#clock.micros} ${isRead ? "r" : "w"} ${isPort ? "p" : "m"} ` +
+    this.lines.push(`${this.#times.micros} ${isRead ? "r" : "w"} ${isPort ? "p" : "m"} ` +
       `${hex(address, isPort ? 3 : 5)} ${told} ${isWord ? 2 : 1}`);
   }
 
@@ -85,14 +93,14 @@ class TraceWriter {
   }
 
   passFrames(count, misc) {
-    this.pass(count * (this.#clock.speed?.dots ?? 0), misc);
+    this.pass(count * (this.#times.speed?.dots ?? 0), misc);
   }
 
   /** Dots pass; of more than a frame's, each whole frame ends with a read that changes nothing. */
   pass(dots, misc) {
-    const frame = this.#clock.speed?.dots ?? Infinity;
+    const frame = this.#times.speed?.dots ?? Infinity;
     for (let left = dots; left > 0; left -= frame) {
-      this.#clock.pass(Math.min(left, frame));
+      this.#times.pass(Math.min(left, frame));
       if (left >= frame) this.add(`in ${hex(MISC_READ, 3)}`, hex(misc, 2));
     }
   }
@@ -125,7 +133,8 @@ function called(session, step, before) {
 /** The trace of a recording whose session begins at power-on. */
 export function traceOfRecording(recording, adapter, fonts) {
   checkCalls(recording);
-  const session = new Session(adapter, fonts, "", judgedRecording(adapter, recording)), writer = new TraceWriter();
+  const session = new Session(adapter, fonts, "", judgedRecording(adapter, recording));
+  const clock = new TraceClock(adapter), writer = new TraceWriter(clock);
   const stateAt = step => {
     session.seek(step);
     return session.state();
@@ -148,6 +157,7 @@ export function traceOfRecording(recording, adapter, fonts) {
     }
     return `${writer.lines.join("\n")}\n`;
   } finally {
+    clock.close();
     session.close();
   }
 }

@@ -270,11 +270,6 @@ export class Session {
     return State.of(this.card);
   }
 
-  /** The registers of any card. */
-  registersOf(card) {
-    return card.registers();
-  }
-
   /**
    * What there is to see after so many steps: { steps, before, after, picture }, the states before
    * and after the last of them, and the picture. The card must stand before the last step already.

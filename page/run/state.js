@@ -6,8 +6,6 @@ import { FIRST_STATE, HIGHEST, PLANE_SIZE } from "../../javascript/zaklimot.js";
 /** So many bytes before a state make its planes begin at multiples of four. */
 const AHEAD = 2;
 const AT = { dac: 101, planes: 894, drawn: 263038 };
-// The clocks that bits 3 and 2 of miscellaneous output select, in dots a second.
-const CLOCKS = [25175000, 28322000, 25175000, 25175000];
 
 /** How many dots a line of the frame under way has so far, in saved bytes. */
 export function drawnDots(bytes, line) {
@@ -122,19 +120,6 @@ export class State {
 /** How wide a character is, in dots. */
 export function characterWidth(registers) {
   return registers.seq[1] & 1 ? 8 : 9;
-}
-
-/** The dots of a line, displayed or not, and the lines of a frame. */
-export function frameShape(registers) {
-  const { crtc } = registers;
-  const lines = crtc[6] + ((crtc[7] & 1) << 8) + ((crtc[7] >> 5 & 1) << 9) + 2;
-  return { dots: (crtc[0] + 5) * characterWidth(registers), lines };
-}
-
-/** The dots of a frame and the dots that pass in a second. */
-export function frameSpeed(registers) {
-  const clock = CLOCKS[registers.misc >> 2 & 3], { dots, lines } = frameShape(registers);
-  return { dots: dots * lines, rate: clock / (registers.seq[1] & 8 ? 2 : 1) };
 }
 
 /** How many lines a row of characters has, each of them twice or not, and how far rows are apart. */

@@ -4,7 +4,7 @@
 import assert from "node:assert/strict";
 import test from "node:test";
 import { Card } from "../../javascript/zaklimot.js";
-import { State, frameShape } from "../run/state.js";
+import { State } from "../run/state.js";
 import { addressOf } from "../explain/address.js";
 import { bytesOfDot, kindOf, pixelOf } from "../explain/dotrows.js";
 import { dotAhead, sourceAt } from "../explain/way.js";
@@ -114,8 +114,7 @@ test("each dot of frames in which registers change has the colour of the state t
       const state = State.of(card), picture = card.frameLines();
       dots += holdFrame(state, picture, someLines(random, state));
       card.restore(state.bytes);
-      const { dots: line, lines } = frameShape(state.registers);
-      adapter.calls.zak_advance(card.address, random.below(Math.ceil(line * lines / 6)));
+      adapter.calls.zak_advance(card.address, random.below(Math.ceil(card.clock().frameDots / 6)));
     }
   }
   console.log(`${dots} dots of frames that change`);

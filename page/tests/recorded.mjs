@@ -64,7 +64,7 @@ for (const { name, bytes } of programs) {
   test(`${name} is recorded as the page's window shows it`, () => {
     const { trace, told } = recorded(name, bytes), own = windowOf({ program: bytes }, SECONDS);
     // The mode that the machine begins with is none of the window's.
-    const [first, ...lines] = joined(textOfTrace(trace).trim().split("\n"));
+    const [first, ...lines] = joined(textOfTrace(trace, adapter).trim().split("\n"));
     assert.equal(first, "int ax=0003 bx=0000 cx=0000 dx=0000");
     assert.ok(own.lines.length > 20, `${own.lines.length} steps`);
     // Dots after the last cycle go on to the next one there.

@@ -5,7 +5,7 @@ import { Session } from "../run/session.js";
 import { changedPlanes } from "../run/changes.js";
 import { statusOne } from "../panels/registerpanel.js";
 import { charactersOf, displayedBeams, shownBytes } from "../explain/frame.js";
-import { State, characterWidth, dacEntry, frameShape, frameSpeed } from "../run/state.js";
+import { State, characterWidth, dacEntry } from "../run/state.js";
 import { partsOfSaved } from "./saved.mjs";
 import { Random, stateOf } from "./randomly.mjs";
 import { FONTS, examples, loadAdapter, runWhole } from "./loading.mjs";
@@ -83,7 +83,8 @@ for (const [mode, [width, height, dots, lines]] of Object.entries(SHAPES)) {
     const state = session.state(), { registers } = state;
     assert.deepEqual([charactersOf(state) * characterWidth(registers), displayedBeams(state).length],
       [width, height]);
-    assert.deepEqual(frameShape(registers), { dots, lines });
+    const { lineDots, lines: count } = state.card.clock();
+    assert.deepEqual([lineDots, count], [dots, lines]);
     session.close();
   });
 }
@@ -180,19 +181,6 @@ function randomCards(count, seed) {
   }
   return { session, card, random, list };
 }
-
-test("line, frame and rate of random registers are those that the module's clock tells", () => {
-  const { session, card, list } = randomCards(300, 41);
-  for (const bytes of list) {
-    card.restore(bytes);
-    const told = card.clock(), { registers } = State.of(card),
-      { dots, lines } = frameShape(registers);
-    const { dots: frame, rate } = frameSpeed(registers);
-    assert.deepEqual([dots, lines, frame, rate],
-      [told.lineDots, told.lines, told.frameDots, told.rate / told.rateDivisor]);
-  }
-  session.close();
-});
 
 test("bytes that are shown by random registers, panned too, are those that change the picture",
   () => {

@@ -3,9 +3,10 @@ import assert from "node:assert/strict";
 import test from "node:test";
 import { execFileSync } from "node:child_process";
 import { readFileSync, writeFileSync } from "node:fs";
-import { textOfTrace, traceForm } from "../files/trace.js";
-import { TOP, written } from "./loading.mjs";
+import { textOfTrace as textBy, traceForm } from "../files/trace.js";
+import { TOP, loadAdapter, written } from "./loading.mjs";
 
+const adapter = await loadAdapter(), textOfTrace = trace => textBy(trace, adapter);
 const EXAMPLE = readFileSync(TOP + "examples/typed-line.trace", "utf-8");
 // A frame of 100 characters of 8 dots and 449 lines, at 28,322,000 dots a second, and protected.
 const FRAME = ["3C2 67", "3D4 5F00", "3D4 BF06", "3D4 1F07", "3C4 0101", "3D4 8E11"];
