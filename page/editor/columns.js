@@ -7,16 +7,20 @@ import { isPlainAnswer, isRefusal, shortAnswer } from "../script/expecting.js";
 /** An answer of so many letters has room beside its line. */
 const SHORT = 12;
 
-/** The columns. `pointed(line)` hears of a line's number that was clicked. */
+/** The columns. `pointed(line)` hears of a line's number that was clicked, and `asked(step)` of a step's answer. */
 export class Columns {
-  constructor(pointed) {
-    const gutter = byId("gutter");
+  constructor(pointed, asked) {
+    const gutter = byId("gutter"), told = byId("told");
     this.numbers = new Rows(gutter,
       () => element("button", { type: "button", tabIndex: -1, className: "number" }));
-    this.answers = new Rows(byId("told"), () => element("span", { className: "answer" }));
+    this.answers = new Rows(told, () => element("span", { className: "answer" }));
     gutter.addEventListener("click", event => {
       const line = Number(event.target.closest("button")?.dataset.line);
       if (line) pointed(line);
+    });
+    told.addEventListener("click", event => {
+      const step = Number(event.target.closest(".answer")?.dataset.step);
+      if (step) asked(step);
     });
   }
 
@@ -48,6 +52,7 @@ export class Columns {
       : answerOf(step, isLater, state.session);
     setText(made, text);
     setAll(made, { title, className: classesOf(className, isHere && "here") });
+    made.dataset.step = step + 1;
   }
 }
 
@@ -73,7 +78,7 @@ function answerOf(step, isLater, session) {
   const text = isWrong ? `✗ ${whole}` : expected !== null ? "✓" : isPlainAnswer(answer, words) ? "" : whole;
   return {
     text,
-    title: `step ${step + 1}: ${answer}` + (isWrong ? `\nexpected: ${expected}` : ""),
+    title: `step ${step + 1}: ${answer}${isWrong ? `\nexpected: ${expected}` : ""}\nClick it to go to this step.`,
     className: classesOf("answer", !text && "nothing", isLater && "later", isRefusal(answer) && "refused",
       isPlainAnswer(answer, words) && "plain", text.length > SHORT && "long", expected !== null && (isWrong ? "wrong" : "right")),
   };

@@ -16,8 +16,8 @@ const HIGHEST_TEXT = 8000000;
 
 /**
  * The editor. `heard` has `typed(change, old)`, which answers which script the changed text is,
- * `switched(change, old)`, a change that was undone or done again, and `pointed(line)`, a
- * breakpoint's mark that was clicked. `old` is the text before: { length, text }.
+ * `switched(change, old)`, a change that was undone or done again, `pointed(line)`, a
+ * breakpoint's mark that was clicked, and `asked(step)`, the answer of a step that was. `old` is the text before: { length, text }.
  */
 export class Editor {
   isLong = false;
@@ -42,7 +42,7 @@ export class Editor {
       changed: changes => this.#typed(changes) });
     this.area = this.field.area;
     this.longText = new LongText(byId("long"), byId("longrows"));
-    this.columns = new Columns(line => heard.pointed(line));
+    this.columns = new Columns(line => heard.pointed(line), step => heard.asked(step));
     this.area.addEventListener("beforeinput", event => {
       const way = { historyUndo: "undo", historyRedo: "redo" }[event.inputType];
       if (!way) return;

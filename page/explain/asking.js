@@ -33,7 +33,8 @@ export class Asking {
    * `heard` has `drawn(line, dot)`, `change(subject)`, `watch(words)` and `stop(points)`;
    * `madeAt(words, seen)` answers a dot whose change is shown, as it is drawn, or null;
    * `colourAt(line, dot)` answers the colour of a dot of the picture, or null; `placeOf(line, dot)`
-   * where it stands in the window; `isIdle()` whether the run searches for nothing.
+   * where it stands in the window; `isIdle()` whether the run searches for nothing; `answer(seen)` what a search has
+   * found, if it has led to what is shown, or nothing.
    */
   constructor(heard) {
     this.#heard = heard;
@@ -89,8 +90,9 @@ export class Asking {
   #tell() {
     const { subject } = this;
     this.#card.title = subject.title;
-    this.#told.replaceChildren(...subject.isDot ? this.#tellDot(subject)
-      : this.#tellValue(subject));
+    const answer = this.#heard.answer(this.#seen);
+    this.#told.replaceChildren(...answer ? [element("p", { className: "found" }, answer)] : [],
+      ...subject.isDot ? this.#tellDot(subject) : this.#tellValue(subject));
   }
 
   #action(name, does) {

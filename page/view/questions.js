@@ -45,6 +45,7 @@ export class Questions {
       colourAt: (line, dot) => screen.colourAt(line, dot),
       placeOf: (line, dot) => screen.placeOfDot(line, dot),
       isIdle: () => runner.task === TASK.idle && runner.isShown,
+      answer: ({ session, steps }) => this.finder.textAt(session, steps),
     });
   }
 

@@ -117,6 +117,7 @@ export class View {
       typed: (change, old) => this.desk.typed(change, old),
       switched: (change, old) => this.desk.switched(change.after.script, change, old),
       pointed: line => this.pointPanel.toggleLine(line),
+      asked: step => this.runner.go(step),
     });
     this.pointPanel = new PointPanel({ changed: points => this.#pointsChanged(points) });
     this.desk = new Desk(this.editor, this.scripts, this.pointPanel, {
