@@ -12,11 +12,16 @@ export class PopCard {
   #opener = null;
   #heard;
   #free;
+  #grows;
 
-  /** `heard` is called once the card is closed. Where there is room, it does not cover an element, `free`. */
-  constructor(id, heard = () => {}, free = null) {
+  /**
+   * `heard` is called once the card is closed. Where there is room, it does not cover an element, `free`, even when it
+   * has grown by so many pixels.
+   */
+  constructor(id, heard = () => {}, free = null, grows = 0) {
     this.#heard = heard;
     this.#free = free;
+    this.#grows = grows;
     const close = element("button", { type: "button", "aria-label": "close this card",
       className: "close", onclick: () => this.close() }, "×");
     this.root = element("section", { id, className: "popcard", hidden: true, role: "dialog" },
@@ -54,7 +59,7 @@ export class PopCard {
   }
 
   #put({ x, y }) {
-    const { width, height } = this.root.getBoundingClientRect();
+    const { width, height: now } = this.root.getBoundingClientRect(), height = now + this.#grows;
     const isRoom = x + GAP + width + EDGE <= innerWidth;
     const left = isRoom ? x + GAP : Math.max(EDGE, x - GAP - width);
     const top = Math.max(EDGE, Math.min(y - height / 3, this.#floorFor(y, height) - height - EDGE));

@@ -305,6 +305,7 @@ export class Editor {
     const count = Math.max(0, last - first), top = TOP + ROW.height * first - scrolled;
     const marked = this.bad?.line ?? this.mark;
     this.columns.show(count, first, top, this);
+    byId("told").style.right = `${this.isLong ? 0 : this.field.barWidth}px`;
     this.longText.show(this.isLong ? count : 0, first, top + box.top, marked);
     const ribbon = byId("mark");
     setAll(ribbon, { hidden: !marked || this.isLong, className: this.bad ? "bad" : "" });

@@ -211,6 +211,11 @@ export class TextField {
     this.cm.scrollTo(null, top);
   }
 
+  /** The width of the bar at the right, by which the text is scrolled, in pixels. */
+  get barWidth() {
+    return this.cm.display.barWidth;
+  }
+
   /** Measures the lines anew. */
   refresh() {
     this.cm.refresh();

@@ -15,13 +15,15 @@ export const ACTIONS = { drawn: "the step that draws it", change: "the last step
 
 /** So many milliseconds a search for the step that drew a dot goes on at a time, and waits. */
 const SLICE_TIME = 8, WAIT_TIME = 30;
+/** What a search has found takes so many pixels of a card. */
+const ANSWER_HEIGHT = 80;
 /** So far from the left of what keys ask about its card stands at most, in pixels. */
 const MOST_ASIDE = 160;
 
 /** The cards of dots and of other subjects. */
 export class Asking {
   #heard;
-  #card = new PopCard("asked", undefined, byId("slider"));
+  #card = new PopCard("asked", undefined, byId("slider"), ANSWER_HEIGHT);
   #told = element("div");
   /** What is asked about: the words of a subject, and of a dot its place. */
   #words = "";

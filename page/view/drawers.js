@@ -3,7 +3,7 @@ import { byId } from "../common/dom.js";
 
 /** The drawers: the pane of each, and the pixels that it has while it is closed. */
 const DRAWERS = { list: { pane: "listpane", opener: "openlist", closed: 34 },
-  state: { pane: "statepane", opener: "openstate", closed: 126 } };
+  state: { pane: "statepane", opener: "openstate", closed: 106 } };
 const KEPT_AS = "open";
 
 /** Which of them are open. The browser's storage keeps that. */
