@@ -21,7 +21,7 @@ export function openParts(browser) {
 
 /**
  * In the page: where the middle of an element is, which is in sight then; and whether what it stands in had to be
- * opened: [left, top, isOpened].
+ * opened, and is to be closed again: [left, top, isOpened]. A field stays open, for what is typed into it.
  */
 export const middleOf = selector => `(() => {
   const control = document.querySelector(${JSON.stringify(selector)}), box = control.closest("details.flyout:not([open])");
@@ -29,7 +29,7 @@ export const middleOf = selector => `(() => {
   if (isWithin) box.open = true;
   control.scrollIntoView({ block: "nearest" });
   const { left, top, width, height } = control.getBoundingClientRect();
-  return [left + width / 2, top + height / 2, Boolean(isWithin)];
+  return [left + width / 2, top + height / 2, Boolean(isWithin) && !control.matches("input:not([type=checkbox])")];
 })()`;
 
 /** In the page: closes what was opened beside a button. */

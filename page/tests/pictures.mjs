@@ -42,7 +42,7 @@ async function takeMachine() {
   await browser.until("document.getElementById('compared').textContent.startsWith('✓')");
   for (let time = 0; time < BACK; time++) await browser.press("ArrowLeft");
   await browser.until(IDLE);
-  await browser.press("7");
+  await browser.press("1");
   // The processor's registers come a moment after the step.
   await browser.value("new Promise(done => setTimeout(done, 1000))");
   await shot("machine");

@@ -1,10 +1,9 @@
 // Pictures of a page in the browser, as small PNGs: a palette, and fewer levels of a component.
-import assert from "node:assert/strict";
 import { deflateSync } from "node:zlib";
 import { crcOf } from "../picture/png.js";
 
-// So many levels a component keeps, and so many colours a palette has at most.
-const LEVELS = 16, MOST_COLOURS = 256;
+// So many levels a component keeps: the first that leave a palette of at most so many colours.
+const LEVELS = [16, 12, 9, 7, 6], MOST_COLOURS = 256;
 const SIGNATURE = Buffer.from("\x89PNG\r\n\x1a\n", "latin1");
 
 /** In the page: where an element stands, in whole pixels. */
@@ -36,21 +35,21 @@ function chunk(kind, given) {
   return whole;
 }
 
-/** A byte at the nearest level. */
-function levelled(byte) {
-  const steps = LEVELS - 1;
+/** A byte at the nearest of so many levels. */
+function levelled(byte, levels) {
+  const steps = levels - 1;
   return Math.round(Math.round(byte * steps / 255) * 255 / steps);
 }
 
-/** The PNG of dots with a palette. */
-function withPalette({ width, height, dots }) {
+/** The PNG of dots with a palette, or nothing if they have too many colours at so many levels. */
+function withPalette({ width, height, dots }, levels) {
   const palette = new Map(), rows = Buffer.alloc((width + 1) * height), head = Buffer.alloc(13);
   for (let dot = 0; dot < width * height; dot++) {
-    const colour = [...dots.subarray(4 * dot, 4 * dot + 3)].map(levelled), name = colour.join();
+    const colour = [...dots.subarray(4 * dot, 4 * dot + 3)].map(byte => levelled(byte, levels)), name = colour.join();
     if (!palette.has(name)) palette.set(name, { entry: palette.size, colour });
     rows[dot + Math.floor(dot / width) + 1] = palette.get(name).entry;
   }
-  assert.ok(palette.size <= MOST_COLOURS, `${palette.size} colours`);
+  if (palette.size > MOST_COLOURS) return null;
   head.writeUInt32BE(width, 0);
   head.writeUInt32BE(height, 4);
   head.set([8, 3, 0, 0, 0], 8);
@@ -68,5 +67,10 @@ export async function smallShot(browser, selector) {
   const data = await browser.screenshot(isCut ? undefined : selector);
   const words = `"${data.toString("base64")}", ${JSON.stringify(place)}`;
   const read = await browser.value(`(${READ})(${words})`);
-  return withPalette({ ...read, dots: Buffer.from(read.dots, "base64") });
+  const seen = { ...read, dots: Buffer.from(read.dots, "base64") };
+  for (const levels of LEVELS) {
+    const made = withPalette(seen, levels);
+    if (made) return made;
+  }
+  return data;
 }
