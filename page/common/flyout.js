@@ -3,7 +3,8 @@
 /** Has each `details` element of a class close by itself. */
 export function followFlyouts(root = document) {
   for (const box of root.querySelectorAll("details.flyout")) {
-    root.addEventListener("pointerdown", ({ target }) => {
+    // Not as soon as the pointer goes down: what moves as it closes would not be where the pointer goes up.
+    root.addEventListener("click", ({ target }) => {
       if (!box.contains(target)) box.open = false;
     });
     box.addEventListener("keydown", event => {
