@@ -33,6 +33,13 @@ async function check(name, does) {
   }
 }
 
+/** Opens the page, and leaves it as it is: whatever is pressed takes its message away. */
+async function openAlone(hash) {
+  await browser.open(ADDRESS + hash);
+  await until(IDLE);
+  await pause();
+}
+
 async function open(hash = "", address = ADDRESS) {
   await browser.open(address + hash);
   await until(IDLE);
@@ -469,7 +476,7 @@ const CHECKS = {
       ["#example=hunt&step=0.5", "names no step", 0], ["#fonts=AAAA", "font file in this link is damaged", 0],
       ["#fonts=Y2AYBSMFAAA", "needs 9,728", 0], [cut, "script in this link is damaged", 0],
       ["#script=%%%&fonts=x", "damaged", 0], ["#tab=none", "names none of", 0], ["#%E0%A4", "", 0]]) {
-      await open(hash);
+      await openAlone(hash);
       const notice = await text("notice");
       assert.ok(notice.includes(said), `${hash}: ${notice}`);
       assert.ok((await value("text")).length > 50 && /^\d+ steps/.test(await text("state")), hash);
