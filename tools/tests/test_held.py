@@ -106,7 +106,7 @@ class Faults(Made):
         self.assertEqual(set(FOUND), set(FAULTS))
         for fault, (kind, rule) in FOUND.items():
             with self.subTest(fault):
-                held = self.held(kind, fault, 120)
+                held = self.held(kind, fault, 250)
                 self.assertGreater(held.differ, 5)
                 self.assertEqual(held.branches()[0].rule, rule, list(held.lines()))
 
