@@ -106,7 +106,8 @@ class Faults(Made):
         self.assertEqual(set(FOUND), set(FAULTS))
         for fault, (kind, rule) in FOUND.items():
             with self.subTest(fault):
-                held = self.held(kind, fault, 250)
+                # Rules of text meet in many of its dots: fewer elements don't tell them apart.
+                held = self.held(kind, fault, 500 if kind == "dots-text" else 250)
                 self.assertGreater(held.differ, 5)
                 self.assertEqual(held.branches()[0].rule, rule, list(held.lines()))
 

@@ -359,7 +359,7 @@ class Rules(Made):
             self.write(name, "[\n" + ",\n".join(map(json.dumps, found)) + "\n]\n")
         paths = [self.folder / name for name in files]
         for given in (paths, paths[::-1]):
-            told = list(seldom_shown(given, 2))
+            told = list(seldom_shown(given, 1))
             self.assertGreater(len(told), 100)
             counts = counted_file(paths[1])
             shown = [": ".join(name) for name, count in counts.branches.items() if count == 2]

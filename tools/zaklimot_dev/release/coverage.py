@@ -36,10 +36,17 @@ def counted_file(path: Path) -> CountedFile:
     return CountedFile(path.name, elements, branches)
 
 
+def _counted_files(paths: Sequence[Path], jobs: int) -> list[CountedFile]:
+    """The counts of files. Several jobs need semaphores, which a bare machine may lack."""
+    if jobs == 1:
+        return list(map(counted_file, paths))
+    with ProcessPoolExecutor(jobs) as pool:
+        return list(pool.map(counted_file, paths))
+
+
 def seldom_shown(paths: Sequence[Path], jobs: int, fewest: int = FEWEST) -> Iterator[str]:
     """What is told of each branch that no file shows often enough."""
-    with ProcessPoolExecutor(jobs) as pool:
-        counts = list(pool.map(counted_file, paths))
+    counts = _counted_files(paths, jobs)
     for rule in RULES:
         for branch in rule.branches:
             best = max(counts, key=lambda one: one.share(rule.name, branch))
