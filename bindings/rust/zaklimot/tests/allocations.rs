@@ -2,19 +2,26 @@
 //! program's, so this test has a program of its own.
 
 use std::alloc::{GlobalAlloc, Layout, System};
-use std::sync::atomic::{AtomicUsize, Ordering};
+use std::cell::Cell;
 
 use zaklimot::{Card, Error, Form, Regs, FIRST_STATE};
 
-/// The system's allocator, which counts what it is asked for.
+/// The system's allocator, which counts what each thread asks for.
 struct Counting;
 
-static ASKED: AtomicUsize = AtomicUsize::new(0);
+thread_local! {
+    /// How often this thread has asked. What runs the tests has a thread of its own, which asks too.
+    static ASKED: Cell<usize> = const { Cell::new(0) };
+}
+
+fn asked() -> usize {
+    ASKED.with(Cell::get)
+}
 
 // SAFETY: each call goes on to the system's allocator as it is.
 unsafe impl GlobalAlloc for Counting {
     unsafe fn alloc(&self, layout: Layout) -> *mut u8 {
-        ASKED.fetch_add(1, Ordering::Relaxed);
+        ASKED.with(|asked| asked.set(asked.get() + 1));
         System.alloc(layout)
     }
 
@@ -43,11 +50,11 @@ fn a_snapshot_a_frame_allocates_nothing() {
     card.int10(Regs::ax(0x0013), &[]).unwrap();
     let (mut words, mut state) = (vec![0; 320 * 200], vec![0; FIRST_STATE + 4]);
     frame(&mut card, &mut words, &mut state).unwrap();
-    let before = ASKED.load(Ordering::Relaxed);
+    let before = asked();
     let done = frame(&mut card, &mut words, &mut state);
-    let after = ASKED.load(Ordering::Relaxed);
+    let after = asked();
     assert_eq!((done, after), (Ok(()), before));
     // What is counted sees a state in memory of its own.
     let state = card.save().unwrap();
-    assert!(ASKED.load(Ordering::Relaxed) > after && state.len() == FIRST_STATE);
+    assert!(asked() > after && state.len() == FIRST_STATE);
 }
